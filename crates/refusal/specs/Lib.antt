@@ -1,0 +1,3 @@
+-- The definitions of the refusals. Assumes nothing.
+pub mod Numbers
+pub mod Tests
