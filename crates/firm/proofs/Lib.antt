@@ -1,0 +1,4 @@
+-- Laws of searches, of the ones of a history, and of the two distances. Assumes nothing.
+pub mod Searching
+pub mod Counting
+pub mod Turning
