@@ -1,0 +1,3 @@
+-- The model: what a reader must believe. Assumes nothing.
+pub mod Streams
+pub mod Tables
