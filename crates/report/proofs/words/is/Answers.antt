@@ -1,0 +1,17 @@
+use mathlib.Core.Path.{_≡_, subst}
+use mathlib.Core.Bool.{Bool}
+use mathlib.Core.List.{List}
+use Prim.Native.Nat.{ℕ}
+use borrow.Author.Needs.{needs}
+use Rattle.std.specs.Orderings.{Decides}
+use Rattle.std.specs.shelf.Text.{sameBytes}
+use Rattle.std.proofs.shelf.Equals.{matches-decides, sameBytes-decides}
+use Rattle.report.proofs.words.is.Needs as need
+
+tested : (xs ys : List ℕ) (r : Bool) → Decides r (xs ≡ ys) → r ≡ sameBytes xs ys
+tested xs ys r h = search (needs, sameBytes-decides)
+
+pub returns : need.returns
+returns c =
+    tested (c .args .word .now) (c .args .text .now) (c .eq .result)
+    (subst (λ l. Decides (c .eq .result) (c .args .word .now ≡ l)) (c .as-bytes .ensures .value) (matches-decides _ _ _ (c .eq .ensures)))

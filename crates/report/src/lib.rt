@@ -1,0 +1,7 @@
+// The bytes that the program prints for an input as a whole.
+mod lines;
+pub mod ranking;
+mod responding;
+mod words;
+
+pub use responding::respond;
