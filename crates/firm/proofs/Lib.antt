@@ -2,3 +2,4 @@
 pub mod Searching
 pub mod Counting
 pub mod Turning
+pub mod Passing

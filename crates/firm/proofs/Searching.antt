@@ -36,6 +36,15 @@ first-within test (suc tries) j = elim (cases-bool (test j)) [
   | inr e ↦ omega (arith, first-later test tries j e, first-within test tries (suc j))
 ]
 
+-- it is none below the start
+pub first-above : (test : ℕ → Bool) (tries j : ℕ) → j ≤ first-from test tries j
+unfolding first-from
+first-above test zero j = omega arith
+first-above test (suc tries) j = elim (cases-bool (test j)) [
+  | inl e ↦ omega (arith, first-here test tries j e)
+  | inr e ↦ omega (arith, first-later test tries j e, first-above test tries (suc j))
+]
+
 -- none before it passes
 pub first-before : (test : ℕ → Bool) (tries j i : ℕ) → j ≤ i → i < first-from test tries j → test i ≡ false
 unfolding first-from
@@ -59,6 +68,11 @@ first-holds test (suc tries) j n low high p = elim (cases-bool (test j)) [
     | inr apart ↦ rw (first-later test tries j e) (first-holds test tries (suc j) n (omega arith) (omega arith) p)
   ]
 ]
+
+-- it is at most any other that passes
+pub first-at-most : (test : ℕ → Bool) (tries j i : ℕ) → j ≤ i → test i ≡ true → first-from test tries j ≤ i
+first-at-most test tries j i h t =
+    elim (cases-lt i (first-from test tries j)) [ inl b ↦ absurd (both-ways (test i) (first-before test tries j i h b) t) | inr le ↦ le ]
 
 pub first-least : (test : ℕ → Bool) (tries n : ℕ) → n ≤ tries → test n ≡ true → Least (λ i. test i ≡ true) (first-from test tries 0)
 first-least test tries n h p = record {

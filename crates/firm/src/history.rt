@@ -1,5 +1,6 @@
 ghost use Prim.Native.Nat.{_^_, _<_, _≤_};
 
+mod counting;
 mod distances;
 mod making;
 mod passing;

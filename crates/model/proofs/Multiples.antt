@@ -10,36 +10,9 @@ use lib.Arith.{lt-of-le-ne}
 use lib.Dec.{eqb}
 use Rattle.std.proofs.shelf.Tests.{eqb-true, eq-eqb, cases-lt, cond-both, both-ways}
 use Rattle.std.proofs.shelf.Bits.{le-div}
-use Rattle.model.specs.Tables.{Divides, first-from, lcm}
-
--- where j fails a test that i passes, i is not j
-past : (test : ℕ → Bool) (j i : ℕ) → test j ≡ false → j ≤ i → test i ≡ true → j < i
-past test j i e h t =
-    elim (cases-lt j i) [ inl k ↦ k | inr k ↦ absurd (both-ways (test j) e (ap test (omega arith) ∙ t)) ]
-
--- the first number that passes is none below the start
-first-above : (test : ℕ → Bool) (tries j : ℕ) → j ≤ first-from test tries j
-unfolding first-from
-first-above test zero j = omega arith
-first-above test (suc tries) j =
-    cond-both (test j) j (first-from test tries (suc j)) (λ n. j ≤ n) (λ e. omega arith)
-    (λ e. omega (arith, first-above test tries (suc j)))
-
--- it is at most any other that passes
-first-least : (test : ℕ → Bool) (tries j i : ℕ) → j ≤ i → test i ≡ true → first-from test tries j ≤ i
-unfolding first-from
-first-least test zero j i h t = h
-first-least test (suc tries) j i h t =
-    cond-both (test j) j (first-from test tries (suc j)) (λ n. n ≤ i) (λ e. h)
-    (λ e. first-least test tries (suc j) i (past test j i e h t) t)
-
--- it passes, where one within the tries does
-first-passes : (test : ℕ → Bool) (tries j i : ℕ) → j ≤ i → i < j + tries → test i ≡ true → test (first-from test tries j) ≡ true
-unfolding first-from
-first-passes test zero j i h k t = absurd (omega arith)
-first-passes test (suc tries) j i h k t =
-    cond-both (test j) j (first-from test tries (suc j)) (λ n. test n ≡ true) (λ e. e)
-    (λ e. first-passes test tries (suc j) i (past test j i e h t) (omega arith) t)
+use Rattle.firm.specs.Searches.{first-from}
+use Rattle.firm.proofs.Searching.{first-above, first-at-most, first-holds}
+use Rattle.model.specs.Tables.{Divides, lcm}
 
 module _ (a b : ℕ) (a-positive : 0 < a) (b-positive : 0 < b) where
   -- whether b divides the multiple j of a
@@ -56,7 +29,7 @@ module _ (a b : ℕ) (a-positive : 0 < a) (b-positive : 0 < b) where
 
   pub divides-lcm-right : Divides b (lcm a b)
   unfolding lcm meets
-  divides-lcm-right = eqb-true _ _ (first-passes meets b 1 b b-positive (omega arith) (eq-eqb _ _ (mul-mod-left a b)))
+  divides-lcm-right = eqb-true _ _ (first-holds meets b 1 b b-positive (omega arith) (eq-eqb _ _ (mul-mod-left a b)))
 
   -- a positive number that both divide is no smaller
   pub lcm-least : (q : ℕ) → 0 < q → Divides a q → Divides b q → lcm a b ≤ q
@@ -64,7 +37,7 @@ module _ (a b : ℕ) (a-positive : 0 < a) (b-positive : 0 < b) where
   lcm-least q q-positive ha hb =
       let e : a * (q / a) ≡ q = mul-div-cancel' a (dvd-of-mod-eq-zero a ha) in
       let some : 0 < q / a = le-div 1 q a a-positive (omega (arith, le-of-dvd q-positive (dvd-of-mod-eq-zero a ha))) in
-      omega (arith, mul-le-mul-left a (first-least meets b 1 (q / a) some (eq-eqb _ _ (ap (λ n. n % b) e ∙ hb))))
+      omega (arith, mul-le-mul-left a (first-at-most meets b 1 (q / a) some (eq-eqb _ _ (ap (λ n. n % b) e ∙ hb))))
 
   -- what both divide, their least common multiple divides
   pub lcm-divides : (n : ℕ) → Divides a n → Divides b n → Divides (lcm a b) n

@@ -13,6 +13,7 @@ use Rattle.std.specs.declared.result.Result.the-variants.{Ok, Err}
 use Rattle.refusal.specs.declared.Refusal.{Refusal}
 use Rattle.refusal.specs.declared.Refusal.the-variants.{SlotRange, SlotTaken, HyperPeriodLimit, HistoryLimit}
 use Rattle.binomial.specs.Choose.{at-least}
+use Rattle.firm.specs.Searches.{first-from}
 use Rattle.model.specs.Streams.{Stream}
 
 abbrev pub Table : Type 0
@@ -24,11 +25,6 @@ empty = replicate 8 None
 -- d divides n
 abbrev pub Divides : ℕ → ℕ → Type 0
 Divides d n = n % d ≡ 0
-
--- the first number from j on that passes a test, of at most as many as there are tries
-unfoldable pub first-from : (ℕ → Bool) → ℕ → ℕ → ℕ
-first-from test zero j = j
-first-from test (suc tries) j = cond (test j) j (first-from test tries (suc j))
 
 -- the least common multiple of a and b: the first multiple of a that b divides
 unfoldable pub lcm : ℕ → ℕ → ℕ

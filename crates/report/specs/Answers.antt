@@ -1,5 +1,6 @@
 -- The answer to an input: the word of a ranking rule, byte 10, a table file. Assumes nothing.
-use mathlib.Core.List.{List}
+use mathlib.Core.Path.{_≡_}
+use mathlib.Core.List.{List, _∷_, _++_}
 use Prim.Native.Nat.{ℕ, suc}
 use lib.ListN.{take, drop}
 use Rattle.std.specs.declared.option.Option.{Option}
@@ -11,7 +12,8 @@ use Rattle.refusal.specs.declared.Refusal.the-variants.{WordUnknown}
 use Rattle.refusal.specs.declared.Layer.the-variants.{Word}
 use Rattle.model.specs.Tables.{Table, hyper-period, histories}
 use Rattle.tablefile.specs.Layout.{judged}
-use Rattle.report.specs.Words.{named, newline}
+use Rattle.tablefile.specs.Spelling.{Spells}
+use Rattle.report.specs.Words.{word, named, newline}
 use Rattle.report.specs.Lines.{refused, admitted}
 use Rattle.report.specs.declared.ranking.Ranking.{Ranking}
 
@@ -40,3 +42,9 @@ line (Err f) = refused f
 -- the bytes that are printed for an input
 abbrev pub printed : List ℕ → List ℕ
 printed input = line (asked input)
+
+-- the line for an input is right: where the input is the word of a ranking rule, byte 10 and a file that spells a table within
+-- its limits, the line admits that table with its two numbers
+abbrev pub Admits : List ℕ → List ℕ → Type 0
+Admits input bytes =
+    (r : Ranking) (file : List ℕ) (t : Table) → input ≡ word r ++ (10 ∷ file) → Spells file t → bytes ≡ admitted (hyper-period t) (histories t)

@@ -4,7 +4,7 @@ ghost use Rattle.std.specs.Of.String.{string-bytes};
 ghost use Rattle.std.specs.Vec.{made};
 ghost use Rattle.refusal.specs.Tests.{on-ok};
 ghost use Rattle.streams.specs.Tables.{table-of};
-ghost use Rattle.report.specs.Answers.{asked, printed};
+ghost use Rattle.report.specs.Answers.{Admits, asked, printed};
 use crate::lines::admitted_line;
 use crate::lines::refused_line;
 use crate::words::line_end;
@@ -37,7 +37,8 @@ fn judge(input: &[u8]) -> Result<Table, Fault>
 
 // The bytes to print for an input, or `AllocError` where there is no memory for them.
 pub fn respond(heap: Global, input: &[u8]) -> Result<String, AllocError>
-    ensures { λ r. ⌜ made r (λ s. string-bytes s ≡ printed (now (input .entry))) ⌝ }
+    ensures value { λ r. ⌜ made r (λ s. string-bytes s ≡ printed (now (input .entry))) ⌝ }
+    ensures admits { λ r. ⌜ made r (λ s. Admits (now (input .entry)) (string-bytes s)) ⌝ }
 {
     match judge(input) {
         Ok(table) => admitted_line(heap, table.hyper_period(), table.history_count()),

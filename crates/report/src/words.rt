@@ -7,6 +7,9 @@ ghost use Rattle.std.specs.shelf.Text.{sameBytes};
 ghost use Rattle.report.specs.Words.{named, newline};
 use crate::ranking::Ranking;
 
+// Ends the word.
+const NEWLINE: u8 = 10;
+
 // Whether a word has the bytes of a text.
 fn is(word: &[u8], text: &str) -> bool
     ensures { λ r. ⌜ r ≡ sameBytes (now (word .entry)) (now (text .entry)) ⌝ }
@@ -41,7 +44,7 @@ pub fn line_end(input: &[u8]) -> Option<usize>
     ensures within { λ r. ⌜ found r (λ i. i < length (now (input .entry))) ⌝ }
 {
     for (i, byte) in input.iter().enumerate() {
-        if *byte == 10 {
+        if *byte == NEWLINE {
             return Some(i);
         }
     }

@@ -6,7 +6,6 @@ ghost use Rattle.streams.specs.Tables.{table-of};
 ghost use lib.Dec.{leb};
 use crate::stream::Stream;
 use crate::table::Table;
-use binomial::at_least;
 
 // The number of histories of a table may not pass this.
 const HISTORY_LIMIT: u64 = 1048576;
@@ -15,8 +14,7 @@ const HISTORY_LIMIT: u64 = 1048576;
 fn count_passing(stream: &Stream) -> u32
     ensures { λ r. ⌜ r ≡ passing-count (stream-of (now (stream .entry))) ⌝ }
 {
-    let history = stream.history();
-    at_least(u64::from(history.k()), u64::from(history.m())).unwrap()
+    stream.history().passing_count()
 }
 
 impl Table {
