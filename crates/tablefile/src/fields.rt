@@ -17,7 +17,7 @@ pub struct Numbers {
 }
 
 // Whether a bit of a map stands.
-pub fn has(map: u8, bit: u8) -> bool
+pub(crate) fn has(map: u8, bit: u8) -> bool
     requires { ⌜ bit < 8 ⌝ }
     ensures { λ r. ⌜ r ≡ stands map bit ⌝ }
 {
@@ -57,7 +57,7 @@ fn held(map: u8, bit: u8, size: usize) -> usize
 }
 
 // The bytes of a record with this field map, the map itself among them.
-pub fn record_len(map: u8) -> usize
+pub(crate) fn record_len(map: u8) -> usize
     ensures { λ r. ⌜ r ≡ extent map ⌝ }
 {
     let wide = held(map, 0, 2) + held(map, 1, 2) + held(map, 2, 2);
@@ -73,7 +73,7 @@ fn all_met(k: u64) -> u64
 }
 
 // The six numbers of a record, where the record before it has the period `before`.
-pub fn spelled(bytes: &[u8], before: u64) -> Numbers
+pub(crate) fn spelled(bytes: &[u8], before: u64) -> Numbers
     requires { ⌜ length (now bytes) ≡ extent (getD (now bytes) 0 0) ⌝ }
     ensures t { λ r. ⌜ r .t ≡ period before (now (bytes .entry)) ⌝ }
     ensures c { λ r. ⌜ r .c ≡ service (now (bytes .entry)) ⌝ }

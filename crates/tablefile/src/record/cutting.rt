@@ -13,7 +13,7 @@ use refusal::Layer;
 use refusal::Refusal;
 
 // A refusal by a layer, at a place.
-pub fn at_place<A>(answer: Result<A, Refusal>, place: usize, layer: Layer) -> Result<A, Fault>
+pub(crate) fn at_place<A>(answer: Result<A, Refusal>, place: usize, layer: Layer) -> Result<A, Fault>
     ensures { λ r. ⌜ r ≡ located place layer answer ⌝ }
 {
     match answer {
@@ -27,7 +27,7 @@ pub fn at_place<A>(answer: Result<A, Refusal>, place: usize, layer: Layer) -> Re
 }
 
 // The fault of a file that ends too soon, at its length.
-pub fn too_short(file: &[u8]) -> Fault
+pub(crate) fn too_short(file: &[u8]) -> Fault
     ensures { λ r. ⌜ r ≡ short (now (file .entry)) ⌝ }
 {
     Fault {
@@ -62,7 +62,7 @@ fn map_at(file: &[u8], place: usize, first: bool) -> Result<u8, Fault>
 }
 
 // The record at a place, or the first fault of its layout.
-pub fn record_at(file: &[u8], place: usize, first: bool) -> Result<Record<'_>, Fault>
+pub(crate) fn record_at(file: &[u8], place: usize, first: bool) -> Result<Record<'_>, Fault>
     requires { ⌜ place ≤ length (now file) ⌝ }
     ensures answer { λ r. ⌜ on-ok (λ x. now (x .bytes)) r ≡ cut (now (file .entry)) place first ⌝ }
     ensures place { λ r. ⌜ made r (λ x. x .place ≡ place) ⌝ }

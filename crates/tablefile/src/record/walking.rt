@@ -47,7 +47,7 @@ impl<'a> Reader<'a> {
     }
 
     // Lays the stream of the next record into a slot.
-    pub fn lay(&mut self, slot: u8) -> Result<(), Fault>
+    pub(crate) fn lay(&mut self, slot: u8) -> Result<(), Fault>
         ensures file { λ _. ⌜ now (now (self .exit) .file) ≡ now (now (self .entry) .file) ⌝ }
         ensures cases { λ r. ⌜ Cases r (λ _. next (now (now (self .entry) .file)) slot (progress-of (now (self .entry))) ≡ Ok (progress-of (now (self .exit)))) (λ f. next (now (now (self .entry) .file)) slot (progress-of (now (self .entry))) ≡ Err f) ⌝ }
     {
