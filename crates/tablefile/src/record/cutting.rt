@@ -13,7 +13,11 @@ use refusal::Layer;
 use refusal::Refusal;
 
 // A refusal by a layer, at a place.
-pub(crate) fn at_place<A>(answer: Result<A, Refusal>, place: usize, layer: Layer) -> Result<A, Fault>
+pub(crate) fn at_place<A>(
+    answer: Result<A, Refusal>,
+    place: usize,
+    layer: Layer,
+) -> Result<A, Fault>
     ensures { λ r. ⌜ r ≡ located place layer answer ⌝ }
 {
     match answer {
