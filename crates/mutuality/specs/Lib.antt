@@ -1,0 +1,2 @@
+-- What the rules of this crate mean. Assumes nothing.
+pub mod Margins
