@@ -4,3 +4,5 @@ pub mod Tables
 pub mod Ready
 pub mod Machine
 pub mod Schedule
+pub mod Tally
+pub mod Forecast

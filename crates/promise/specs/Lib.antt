@@ -1,0 +1,3 @@
+-- What a forecast promises of the quiet schedule: what a reader must believe. Assumes nothing.
+pub mod Boundaries
+pub mod Answers
