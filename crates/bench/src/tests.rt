@@ -1,7 +1,7 @@
 use crate::Laid;
 use bus::Tally;
 use refusal::Refusal;
-use rules::{Del, Lower, Named};
+use bus::{Del, Lower, Named};
 use std::test::Fail;
 
 // The number of a refusal, or 0.

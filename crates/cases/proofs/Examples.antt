@@ -13,7 +13,7 @@ use Rattle.model.specs.Forecast.{units_to, at_boundary, Holds, Fails}
 use Rattle.model.specs.Figures.{figures_over, busy_units}
 use Rattle.laws.specs.Sound.{LawfulStream, Sound}
 use Rattle.promise.proofs.Runs.{quiet}
-use Rattle.rules.specs.Rules.{del}
+use Rattle.bus.specs.Rules.{del}
 use Rattle.cases.specs.Cases.{Right, cases, periodic, two_streams}
 use Rattle.cases.proofs.Forecasts.{started_sound, fails_in, holds_next}
 

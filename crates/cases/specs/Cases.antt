@@ -9,7 +9,7 @@ use Rattle.model.specs.Schedule.{started}
 use Rattle.model.specs.Forecast.{Answer, Tells}
 use Rattle.model.specs.Forecast.Answer.{holds, fails}
 use Rattle.model.specs.Figures.{figures}
-use Rattle.rules.specs.Rules.{del}
+use Rattle.bus.specs.Rules.{del}
 
 pub data Case : Type 0 where
   -- a history of m of k has this distance

@@ -1,4 +1,4 @@
-// forecast: prints the forecast of the stream table on standard input, or what is to be refused of it.
+// forecast: judges the stream table on standard input and prints what is to be said of it.
 ghost use Rattle.std.specs.Prelude.{◌≤◌, length, IfOk};
 
 use report::respond;

@@ -1,6 +1,6 @@
 -- The margin of a stream under the longest other frame. Assumes nothing.
 use Rattle.std.specs.Prelude.{Bool, ℕ, ◌-◌, ◌/◌, ltb}
-use Rattle.rules.specs.Rules.{layered}
+use Rattle.bus.specs.Rules.{layered}
 use Rattle.firm.specs.Histories.{distance_of}
 use Rattle.model.specs.Ready.{Ready}
 

@@ -1,51 +1,43 @@
--- What is printed for an input: the forecast of its table, started, under its ranking rule, or its first fault. Assumes nothing.
-use Rattle.std.specs.Prelude.{◌≡◌, ℕ, Bool, List, [], ◌∷◌, ◌++◌, Ok, Err, Result}
+-- The answer to an input: the word of a ranking rule, byte 10, a table file. Assumes nothing.
+use Rattle.std.specs.Prelude.{◌≡◌, ℕ, suc, List, ◌∷◌, ◌++◌, take, drop, Some, None, Ok, Err, Option, Result}
 use Rattle.refusal.specs.declared.Fault.{Fault}
-use Rattle.model.specs.Figures.{figures}
-use Rattle.model.specs.Bench.Call.{load, start}
-use Rattle.model.specs.Forecast.{Answer, Tells, Foretells}
-use Rattle.model.specs.Forecast.Answer.{holds, fails}
-use Rattle.model.specs.Layout.{judged}
-use Rattle.model.specs.Machine.{State}
-use Rattle.model.specs.Ready.{Ready}
-use Rattle.model.specs.Schedule.{started}
-use Rattle.model.specs.Spelling.{Spells}
-use Rattle.model.specs.Tables.{Table}
-use Rattle.report.specs.Lines.{refused, holding, figured, failing}
-use Rattle.report.specs.Questions.{asked}
-use Rattle.report.specs.Rankings.{meaning}
-use Rattle.report.specs.Words.{word}
+use Rattle.refusal.specs.declared.Refusal.TheVariants.{WordUnknown}
+use Rattle.refusal.specs.declared.Layer.TheVariants.{Word}
+use Rattle.model.specs.Tables.{Table, hyper_period, histories}
+use Rattle.tablefile.specs.Layout.{judged}
+use Rattle.tablefile.specs.Spelling.{Spells}
+use Rattle.report.specs.Words.{word, named, newline}
+use Rattle.report.specs.Lines.{refused, admitted}
 use Rattle.report.specs.declared.ranking.Ranking.{Ranking}
 
--- the lines of an answer about the quiet schedule from a state: its boundaries and the figures between them, or its first failure
-abbrev pub lines : (Ready → Ready → Bool) → State → Answer → List ℕ
-lines before s (holds i j) = holding i j ++ figured (figures before s i j)
-lines before s (fails f) = failing f
+-- the fault of an input whose word names no ranking rule, or that has no word
+abbrev pub no_word : Fault
+no_word = record { refusal = WordUnknown; place = 0; layer = Word }
 
--- the bytes are the lines of the one answer that is true of the quiet schedule from a state
-pub record Foretold (before : Ready → Ready → Bool) (s : State) (bytes : List ℕ) : Type 0 where
-  pub answer : Answer
-  pub tells : Tells before s answer
-  pub only : (a : Answer) → Tells before s a → a ≡ answer
-  pub is : bytes ≡ lines before s answer
+-- the table file is judged once the word has named a ranking rule
+abbrev pub under : Option Ranking → List ℕ → Result Table Fault
+under None file = Err no_word
+under (Some r) file = judged file
 
--- what is printed of a table under a ranking rule, or of the fault in its place
-abbrev pub Told : (Ready → Ready → Bool) → Result Table Fault → List ℕ → Type 0
-Told before (Ok t) bytes = Foretold before (started t) bytes
-Told before (Err f) bytes = bytes ≡ refused f
+-- the word stands before the first byte 10, and the table file behind it
+abbrev pub split : Option ℕ → List ℕ → Result Table Fault
+split None input = Err no_word
+split (Some i) input = under (named (take i input)) (drop (suc i) input)
 
--- what is printed for a question: the table file is judged once the word has named a ranking rule
-abbrev pub Answered : Result (Ranking × List ℕ) Fault → List ℕ → Type 0
-Answered (Ok q) bytes = Told (meaning q.0) (judged q.1) bytes
-Answered (Err f) bytes = bytes ≡ refused f
+-- the table that an input asks about, or its first fault
+abbrev pub asked : List ℕ → Result Table Fault
+asked input = split (newline input) input
 
--- the bytes are those that are printed for an input
-abbrev pub Prints : List ℕ → List ℕ → Type 0
-Prints input bytes = Answered (asked input) bytes
+abbrev pub line : Result Table Fault → List ℕ
+line (Ok t) = admitted (hyper_period t) (histories t)
+line (Err f) = refused f
 
--- and where the input is the word of a ranking rule, byte 10 and a file that spells a table within its limits, they are the forecast
--- of that table under that rule; and so of the calls that are made for it on a bench, to load the file and to start
-abbrev pub Forecasts : List ℕ → List ℕ → Type 0
-Forecasts input bytes =
-    (r : Ranking) (file : List ℕ) (t : Table) → input ≡ word r ++ (10 ∷ file) → Spells file t
-    → (f : Foretold (meaning r) (started t) bytes) × Foretells (meaning r) (load file ∷ start ∷ []) f.answer
+-- the bytes that are printed for an input
+abbrev pub printed : List ℕ → List ℕ
+printed input = line (asked input)
+
+-- the line for an input is right: where the input is the word of a ranking rule, byte 10 and a file that spells a table within
+-- its limits, the line admits that table with its two numbers
+abbrev pub Admits : List ℕ → List ℕ → Type 0
+Admits input bytes =
+    (r : Ranking) (file : List ℕ) (t : Table) → input ≡ word r ++ (10 ∷ file) → Spells file t → bytes ≡ admitted (hyper_period t) (histories t)

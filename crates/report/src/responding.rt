@@ -1,19 +1,41 @@
 // From the bytes of an input to the bytes that are printed.
-ghost use Rattle.report.specs.Answers.{Forecasts, Prints};
-ghost use Rattle.std.specs.Prelude.{IfOk, string_bytes};
+ghost use Rattle.std.specs.Prelude.{◌≡◌, IfOk, string_bytes};
+ghost use Rattle.refusal.specs.Tests.{on_ok};
+ghost use Rattle.streams.specs.Tables.{table_of};
+ghost use Rattle.report.specs.Answers.{Admits, asked, printed};
 
-use crate::answering::answer_under;
-use crate::asking::ask;
-use crate::lines::refused_line;
+use crate::lines::{admitted_line, refused_line};
+use crate::words::{line_end, ranking_of};
+use refusal::{Fault, Layer, Refusal};
 use std::alloc::{AllocError, Global};
+use streams::Table;
+use tablefile::read;
+
+// The table that an input asks about, or its first fault: the word is tested before the table.
+fn judge(input: &[u8]) -> Result<Table, Fault>
+    ensures { on_ok table_of result ≡ asked input.now }
+{
+    let no_word = Fault {
+        refusal: Refusal::WordUnknown,
+        place: 0,
+        layer: Layer::Word,
+    };
+    let Some(end) = line_end(input) else {
+        return Err(no_word);
+    };
+    match ranking_of(&input[0..end]) {
+        Some(_) => read(&input[end + 1..]),
+        None => Err(no_word),
+    }
+}
 
 // The bytes to print for an input, or `AllocError` where there is no memory for them.
 pub fn respond(heap: Global, input: &[u8]) -> Result<String, AllocError>
-    ensures prints { IfOk result (λ s. Prints input.now (string_bytes s)) }
-    ensures forecasts { IfOk result (λ s. Forecasts input.now (string_bytes s)) }
+    ensures value { IfOk result (λ s. string_bytes s ≡ printed input.now) }
+    ensures admits { IfOk result (λ s. Admits input.now (string_bytes s)) }
 {
-    match ask(input) {
-        Ok(question) => answer_under(heap, question.ranking, question.file),
+    match judge(input) {
+        Ok(table) => admitted_line(heap, table.hyper_period(), table.history_count()),
         Err(fault) => refused_line(heap, fault),
     }
 }

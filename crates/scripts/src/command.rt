@@ -1,7 +1,7 @@
 // A line of a script, read.
 use crate::number::{bytes, number};
-use report::ranking::Ranking;
-use report::ranking_of;
+use forecast_report::ranking::Ranking;
+use forecast_report::ranking_of;
 use std::alloc::{AllocError, Global};
 
 // A new bench over a ranking rule, or a call of the bench with its arguments.

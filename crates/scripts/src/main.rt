@@ -3,8 +3,8 @@
 use crate::command::{Command, parse};
 use crate::working::work_calls;
 use anyhow::anyhow;
-use report::ranking::Ranking;
-use rules::{Deh, Del, Dml, Drel, El, Ml, Named};
+use forecast_report::ranking::Ranking;
+use bus::{Deh, Del, Dml, Drel, El, Ml, Named};
 use std::alloc::Global;
 use std::io::{BufRead, BufReader};
 

@@ -4,8 +4,8 @@ use Rattle.binomial.proofs.Sums.{at_least_step, at_least_past}
 use Rattle.binomial.proofs.Counts.{at_least_small}
 use Rattle.binomial.proofs.sum_from.Goals as goal
 
-pub overflow-add-sum : goal.overflow-add-sum
-overflow-add-sum c =
+pub overflow_add-sum : goal.overflow_add-sum
+overflow_add-sum c =
     omega (arith, at_least_step c.args.k c.loop-j.j, at_least_small c.args.k c.args.m (omega arith))
 
 pub loop-j-preserved : goal.loop-j-preserved

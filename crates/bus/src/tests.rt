@@ -1,0 +1,149 @@
+use crate::bottoms::{Higher, Lower};
+use crate::failure::{Failure, first_failure};
+use crate::front::front_at;
+use crate::keys::{Distance, Period, Restoring, SlotRank, TimeLeft};
+use crate::layers::{Key, Layer};
+use crate::named::*;
+use crate::ready::ReadyFrame;
+use crate::rule::Rule;
+use std::test::Fail;
+use streams::Stream;
+
+// The waiting frame of a stream that needs 2 of 4, of service time 1 and due within its period,
+// by its slot, period, time left and history.
+fn ready((slot, period, left, history): (u8, u64, u16, u64)) -> Result<ReadyFrame, Fail> {
+    let stream = Stream::new(period, period, 1, 2, 4, history)?;
+    if slot > 7 || left < stream.service() || left > stream.deadline() {
+        return Err(Fail::new("no waiting frame"));
+    }
+    Ok(ReadyFrame::waiting(slot, &stream, stream.history(), left))
+}
+
+// Whether the first of two frames goes before the second, by a key over each bottom: these differ on a tie.
+fn over_bottoms<K: Key + Copy>(key: K, [a, b]: [ReadyFrame; 2]) -> [bool; 2] {
+    [
+        Layer::over(key, Lower).goes_before(&a, &b),
+        Layer::over(key, Higher).goes_before(&a, &b),
+    ]
+}
+
+fn by_layers(pair: [ReadyFrame; 2]) -> [[bool; 2]; 5] {
+    [
+        over_bottoms(Distance, pair),
+        over_bottoms(Restoring, pair),
+        over_bottoms(TimeLeft, pair),
+        over_bottoms(Period, pair),
+        over_bottoms(SlotRank::new([9, 0, 255, 0, 9, 1, 1, 2]), pair),
+    ]
+}
+
+fn by_named([a, b]: [ReadyFrame; 2]) -> [bool; 6] {
+    [
+        Del::new().goes_before(&a, &b),
+        Deh::new().goes_before(&a, &b),
+        Dml::new().goes_before(&a, &b),
+        Drel::new().goes_before(&a, &b),
+        El::new().goes_before(&a, &b),
+        Ml::new().goes_before(&a, &b),
+    ]
+}
+
+// Distance 1 and 3, and two of distance 0 with restoring distance 2 and 1.
+const OLDEST: u64 = 0b1100;
+
+const LATEST: u64 = 0b0011;
+
+const NONE: u64 = 0b0000;
+
+const ONE: u64 = 0b0001;
+
+const FIRST: [bool; 2] = [true, true];
+
+const SECOND: [bool; 2] = [false, false];
+
+const TIE: [bool; 2] = [true, false];
+
+const TIE_BACK: [bool; 2] = [false, true];
+
+// Two frames; which of them the keys D, R, E, M and K put first; and whether the first goes before the second
+// by Del, Deh, Dml, Drel, El and Ml.
+#[test]
+fn pairs(rt: HostRuntime) -> Result<(), Fail> {
+    let rows = [
+        (
+            [(0, 8, 5, OLDEST), (1, 8, 5, OLDEST)],
+            [TIE, TIE, TIE, TIE, SECOND],
+            [true, false, true, true, true, true],
+        ),
+        (
+            [(4, 9, 5, OLDEST), (0, 8, 4, LATEST)],
+            [FIRST, TIE_BACK, SECOND, SECOND, TIE_BACK],
+            [true, true, true, true, false, false],
+        ),
+        (
+            [(2, 9, 4, OLDEST), (1, 8, 5, OLDEST)],
+            [TIE_BACK, TIE_BACK, FIRST, SECOND, SECOND],
+            [true, true, false, true, true, false],
+        ),
+        (
+            [(7, 8, 4, NONE), (2, 8, 5, ONE)],
+            [TIE_BACK, SECOND, FIRST, TIE_BACK, FIRST],
+            [true, true, false, false, true, false],
+        ),
+        (
+            [(3, 8, 5, NONE), (4, 8, 5, ONE)],
+            [TIE, SECOND, TIE, TIE, FIRST],
+            [true, false, true, false, true, true],
+        ),
+        (
+            [(5, 4096, 4096, LATEST), (6, 8, 1, NONE)],
+            [SECOND, FIRST, SECOND, SECOND, TIE],
+            [false, false, false, false, false, false],
+        ),
+    ];
+    for ([a, b], layers, named) in rows {
+        let pair = [ready(a)?, ready(b)?];
+        assert_eq!(rt; by_layers(pair), layers);
+        assert_eq!(rt; by_named(pair), named);
+    }
+    Ok(())
+}
+
+#[test]
+fn firsts(rt: HostRuntime) -> Result<(), Fail> {
+    let frames = [
+        ready((3, 8, 5, LATEST))?,
+        ready((0, 8, 6, OLDEST))?,
+        ready((5, 9, 2, OLDEST))?,
+        ready((1, 9, 2, OLDEST))?,
+    ];
+    let fronts = [
+        front_at(&Del::new(), &frames),
+        front_at(&Deh::new(), &frames),
+        front_at(&Dml::new(), &frames),
+        front_at(&Lower, &[]),
+    ];
+    assert_eq!(rt; fronts, [Some(3), Some(2), Some(1), None]);
+    let failures = [
+        Failure {
+            slot: 6,
+            frame: 1,
+            instant: 40,
+        },
+        Failure {
+            slot: 2,
+            frame: 7,
+            instant: 44,
+        },
+        Failure {
+            slot: 4,
+            frame: 0,
+            instant: 41,
+        },
+    ];
+    assert_eq!(rt;
+        [first_failure(&failures), first_failure(&[])],
+        [Some(1), None]
+    );
+    Ok(())
+}

@@ -1,0 +1,4 @@
+-- Lemmas for the printed bytes. Assumes nothing.
+pub mod Newlines
+pub mod Asked
+pub mod Foretold

@@ -1,0 +1,13 @@
+use Rattle.std.proofs.Common.{◌≡◌, ℕ, Bool, List, Decides, subst, rules}
+use Rattle.std.specs.Str.{bytes_eq}
+use Rattle.std.proofs.lemmas.Slice.Eq.{slice_eq-Decides, bytes_eq-Decides}
+use Rattle.forecast_report.proofs.words.is.Goals as goal
+use Rattle.std.proofs.lemmas.Bool.Decides.{Decides-eqb}
+
+tested : (xs ys : List ℕ) (r : Bool) → Decides r (xs ≡ ys) → r ≡ bytes_eq xs ys
+tested xs ys r h = search (rules, bytes_eq-Decides)
+
+pub returns : goal.returns
+returns c =
+    tested c.args.word.now c.args.text.now c.eq.result
+    (subst (λ l. Decides c.eq.result (c.args.word.now ≡ l)) c.as-bytes.ensures.value (slice_eq-Decides Decides-eqb _ _ _ c.eq.ensures))

@@ -1,0 +1,6 @@
+-- What the program prints for an input. Assumes nothing.
+pub mod Words
+pub mod Rankings
+pub mod Questions
+pub mod Lines
+pub mod Answers

@@ -1,0 +1,11 @@
+// The bytes that the program prints for an input as a whole.
+mod answering;
+mod asking;
+mod lines;
+mod question;
+pub mod ranking;
+mod responding;
+mod words;
+
+pub use responding::respond;
+pub use words::ranking_of;

@@ -1,0 +1,19 @@
+// From the bytes of an input to the bytes that are printed.
+ghost use Rattle.forecast_report.specs.Answers.{Forecasts, Prints};
+ghost use Rattle.std.specs.Prelude.{IfOk, string_bytes};
+
+use crate::answering::answer_under;
+use crate::asking::ask;
+use crate::lines::refused_line;
+use std::alloc::{AllocError, Global};
+
+// The bytes to print for an input, or `AllocError` where there is no memory for them.
+pub fn respond(heap: Global, input: &[u8]) -> Result<String, AllocError>
+    ensures prints { IfOk result (λ s. Prints input.now (string_bytes s)) }
+    ensures forecasts { IfOk result (λ s. Forecasts input.now (string_bytes s)) }
+{
+    match ask(input) {
+        Ok(question) => answer_under(heap, question.ranking, question.file),
+        Err(fault) => refused_line(heap, fault),
+    }
+}

@@ -1,2 +1,0 @@
--- What the ranking rules mean. Assumes nothing.
-pub mod Rules
