@@ -1,4 +1,6 @@
 // A tester's bench: a rack of eight slots over a ranking rule, laid or running.
+#![tactic(auto)]
+
 pub mod answer;
 pub mod figures;
 pub mod laid;

@@ -1,7 +1,6 @@
 use crate::Laid;
-use bus::Tally;
+use bus::{Del, Lower, Named, Tally};
 use refusal::Refusal;
-use bus::{Del, Lower, Named};
 use std::test::Fail;
 
 // The number of a refusal, or 0.

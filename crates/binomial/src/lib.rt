@@ -1,4 +1,6 @@
 // The binomial coefficients of rows 0 to 16 as a table, and how many numbers of k bits have at least m ones.
+#![tactic(auto)]
+
 ghost use Rattle.std.specs.Prelude.{◌≡◌, ◌≤◌, if◌then◌else◌, Some, None, nat_lt};
 ghost use Rattle.binomial.specs.Choose.{choose, at_least, SumsCount};
 ghost use Rattle.binomial.specs.Pascal.{Pascal};

@@ -1,4 +1,6 @@
 // The bus: what a ranking rule is, which of the frames that wait goes first, and the machine that sends them.
+#![tactic(auto)]
+
 pub mod bottoms;
 pub mod failure;
 pub mod first;

@@ -1,4 +1,6 @@
 // Worked examples, computed by the checker from the definitions that all contracts cite.
+#![tactic(auto)]
+
 ghost use Rattle.cases.specs.Cases.{Right, cases};
 ghost use Rattle.std.specs.List.{AllByRecursion as All};
 

@@ -1,4 +1,6 @@
 // The (m,k)-firm history of a stream: at least m of any k consecutive frames on time.
+#![tactic(auto)]
+
 pub mod history;
 pub mod laws;
 pub mod outcome;

@@ -1,4 +1,6 @@
 // forecast: judges the stream table on standard input and prints what is to be said of it.
+#![tactic(auto)]
+
 ghost use Rattle.std.specs.Prelude.{◌≤◌, length, IfOk};
 
 use report::respond;

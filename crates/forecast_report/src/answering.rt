@@ -8,8 +8,7 @@ ghost use Rattle.std.specs.Prelude.{IfOk, string_bytes};
 use crate::lines::{failing_line, holding_lines, refused_line};
 use crate::ranking::Ranking;
 use bench::{Forecast, Laid, Running};
-use bus::Rule;
-use bus::{Deh, Del, Dml, Drel, El, Ml, Named};
+use bus::{Deh, Del, Dml, Drel, El, Ml, Named, Rule};
 use std::alloc::{AllocError, Global};
 
 // The lines of the forecast from where a bench stands, with its figures.

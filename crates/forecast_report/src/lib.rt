@@ -1,4 +1,6 @@
 // The bytes that the program prints for an input as a whole.
+#![tactic(auto)]
+
 mod answering;
 mod asking;
 mod lines;

@@ -1,4 +1,6 @@
 // What is true of the bus machine over whole runs, for every ranking and every noise. Its definitions alone are spoken of, and no code.
+#![tactic(auto)]
+
 ghost use Rattle.std.specs.Prelude.{◌≡◌, ℕ, ◌+◌, ◌≤◌, Bool, List, length, get_or, Some, None, slice_index_or};
 ghost use Rattle.std.specs.List.{AllByRecursion as All};
 ghost use Rattle.model.specs.Streams.{Stream};

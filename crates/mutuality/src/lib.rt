@@ -1,4 +1,6 @@
 // Ranking rules of another's, on the public face of `bus` alone: a layer and a bottom.
+#![tactic(auto)]
+
 ghost use Rattle.std.specs.Prelude.{map, ◌≡◌};
 ghost use Rattle.bus.specs.First.{First, first_place};
 ghost use Rattle.bus.specs.Stands.{ready_of};

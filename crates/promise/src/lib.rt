@@ -1,4 +1,6 @@
 // What a forecast promises of the quiet schedule from a sound state, under every ranking: laws over the definitions alone, before any search.
+#![tactic(auto)]
+
 ghost use Rattle.std.specs.Prelude.{◌≡◌, ℕ, ◌+◌, ◌<◌, ◌≤◌, false, List, replicate, Some, None};
 ghost use Rattle.model.specs.Tables.{histories};
 ghost use Rattle.model.specs.Machine.{State, Outcome};

@@ -1,4 +1,6 @@
 // Every refusal of the product with its number, and the fault of an input: refusal, place and layer.
+#![tactic(auto)]
+
 ghost use Rattle.std.specs.Prelude.{◌≡◌};
 ghost use Rattle.refusal.specs.Numbers.{code, label};
 

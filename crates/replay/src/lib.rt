@@ -1,4 +1,6 @@
 // Any list of calls, worked on a bench over any ranking rule.
+#![tactic(auto)]
+
 pub mod call;
 mod calling;
 pub mod either;

@@ -1,4 +1,6 @@
 // How a schedule comes round: laws over the definitions alone.
+#![tactic(auto)]
+
 ghost use Rattle.std.specs.Prelude.{◌≡◌, ℕ, ◌+◌, ◌<◌, ◌≤◌, Bool};
 ghost use Rattle.model.specs.Tables.{Table, histories};
 ghost use Rattle.model.specs.Ready.{Ready};

@@ -1,10 +1,12 @@
 // Works scripts of bench calls: each line of standard input is one call, and one line of answer follows on standard output.
 // The expected answers come from simulators that were made apart from this product.
+#![tactic(auto)]
+
 use crate::command::{Command, parse};
 use crate::working::work_calls;
 use anyhow::anyhow;
-use forecast_report::ranking::Ranking;
 use bus::{Deh, Del, Dml, Drel, El, Ml, Named};
+use forecast_report::ranking::Ranking;
 use std::alloc::Global;
 use std::io::{BufRead, BufReader};
 

@@ -1,4 +1,6 @@
 // Periodic frame streams and the table that holds up to eight of them.
+#![tactic(auto)]
+
 pub mod stream;
 pub mod table;
 #[cfg(test)]

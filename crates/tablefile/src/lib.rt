@@ -1,4 +1,6 @@
 // The table file: its layout, read without copying.
+#![tactic(auto)]
+
 mod fields;
 mod reading;
 mod record;

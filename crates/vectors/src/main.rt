@@ -1,6 +1,8 @@
 // Answers many inputs of the program in one run: each line of standard input is one whole input in hexadecimal,
 // and what the program would print for it follows on standard output. The expected answers come from simulators
 // that were made apart from this product.
+#![tactic(auto)]
+
 use anyhow::anyhow;
 use report::respond;
 use std::alloc::{AllocError, Global};

@@ -18,15 +18,15 @@ loop-n-init c =
     let all : c.args.self.now.k - 0 ≡ c.args.self.now.k = omega arith in
     (refl, rw all)
 
-pub returns-then-is-turned : goal.returns-then-is-turned
-returns-then-is-turned c =
-    let here = told c.args.outcome c.loop-n.n (firm_of c.args.self.now) _ _ c.if-is-turned.ensures c.loop-n.invariant.0 in
+pub returns-then-is_turned : goal.returns-then-is_turned
+returns-then-is_turned c =
+    let here = told c.args.outcome c.loop-n.n (firm_of c.args.self.now) _ _ c.if-is_turned.ensures c.loop-n.invariant.0 in
     sym (c.loop-n.invariant.1 ∙ first_stops _ _ _ (omega arith) here)
 
 pub loop-n-preserved : goal.loop-n-preserved
 unfolding repeated
 loop-n-preserved c =
-    let here = told c.args.outcome c.loop-n.n (firm_of c.args.self.now) _ _ c.if-is-turned.ensures c.loop-n.invariant.0 in
+    let here = told c.args.outcome c.loop-n.n (firm_of c.args.self.now) _ _ c.if-is_turned.ensures c.loop-n.invariant.0 in
     let left : c.args.self.now.k - (c.loop-n.n + 1) ≡ c.args.self.now.k - c.loop-n.n - 1 = omega arith in
     (rw add-one (c.enter-history.ensures ∙ ap (λ (f : Firm). after f (bit c.args.outcome)) c.loop-n.invariant.0), rw left (c.loop-n.invariant.1 ∙ first_goes_on _ _ _ (omega arith) here))
 

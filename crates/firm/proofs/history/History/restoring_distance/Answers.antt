@@ -6,5 +6,5 @@ pub returns : goal.returns
 unfolding restoring
 returns c =
     let h = c.args.self.now in
-    let same = c.repeats-until-turned.ensures in
+    let same = c.repeats_until_turned.ensures in
     record { value = same; least = rw same (restoring_least h.m h.k h.bits h.some h.most) }
