@@ -16,10 +16,12 @@ pub table_limits : (t : Table) → Limits (table_of t)
 table_limits t = record { period = t.short; few = t.few }
 
 -- what a table asks of its slots
-abbrev pub Held : List (Option Stream) → Type 0
-Held slots = (length slots ≡ 8) × ((hyper_period (slots_of slots) ≤ 36864) × ((histories (slots_of slots) ≤ 1048576) × Unit {0}))
+pub record Held (slots : List (Option Stream)) : Type 0 where
+  pub eight : length slots ≡ 8
+  pub short : hyper_period (slots_of slots) ≤ 36864
+  pub few : histories (slots_of slots) ≤ 1048576
 
 pub written : (t : Table) (i : ℕ) (o : Option Stream) → Limits (set (table_of t) i (slot_of o)) → Held (set t.slots i o)
 written t i o h =
     let e = map-set slot_of t.slots i o in
-    (length-set t.slots i o ∙ t.eight, (omega (arith, ap hyper_period e), (omega (arith, ap histories e), tt)))
+    record { eight = length-set t.slots i o ∙ t.eight; short = omega (arith, ap hyper_period e); few = omega (arith, ap histories e) }

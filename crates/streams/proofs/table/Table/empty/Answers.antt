@@ -3,6 +3,6 @@ use Rattle.std.proofs.Common.{refl, lit≤}
 use Rattle.model.specs.Tables.{hyper_period, histories}
 use Rattle.streams.proofs.table.Table.empty.Goals as goal
 
-pub invariant-of-result : goal.invariant-of-result
+pub invariant_of-result : goal.invariant_of-result
 unfolding hyper_period histories
-invariant-of-result c = (refl, (lit≤ tt, (lit≤ tt, tt)))
+invariant_of-result c = record { eight = refl; short = lit≤ tt; few = lit≤ tt }

@@ -5,13 +5,13 @@ use Rattle.std.proofs.lemmas.Bool.Decides.{nat_tests}
 use Rattle.streams.specs.Stands.{slots_of}
 use Rattle.streams.proofs.Slots.{Repeats, slots_periodic, repeats_none, repeats_within, repeats_stream, repeats_empty, repeats_all}
 use Rattle.streams.proofs.table.Table.hyper_period.Goals as goal
-use Rattle.streams.proofs.table.Table.hyper_period.Goals.{in-Some, in-default}
+use Rattle.streams.proofs.table.Table.hyper_period.Goals.{in-Some, in_default}
 
 pub loop-slot-init : goal.loop-slot-init
 loop-slot-init c = repeats_none c.args.self.now.slots
 
-pub common-multiple-requires : goal.common-multiple-requires
-common-multiple-requires c = omega (arith, repeats_within _ _ _ c.loop-slot.invariant)
+pub common_multiple-requires : goal.common_multiple-requires
+common_multiple-requires c = omega (arith, repeats_within _ _ _ c.loop-slot.invariant)
 
 -- the hyper-period of the whole table bounds each multiple on the way
 pub unwrap-p-requires : goal.unwrap-p-requires
@@ -34,7 +34,7 @@ loop-slot-preserved c =
           repeats_stream slots i p w.in-Some.stream _ (omega arith) w.in-Some.is c.loop-slot.invariant in
           let e : lcm p w.from.result ≡ lcm p w.in-Some.stream.period = ap (lcm p) (w.from.ensures ∙ w.period.ensures) in
           subst (Repeats slots _) (grind (arith, nat_tests)) next
-      | in-default w ↦ subst (Repeats slots _) (sym w.p-is) (repeats_empty slots i p _ (omega arith) w.in-default.is c.loop-slot.invariant)
+      | in_default w ↦ subst (Repeats slots _) (sym w.p-is) (repeats_empty slots i p _ (omega arith) w.in_default.is c.loop-slot.invariant)
     ]
 
 pub returns : goal.returns

@@ -7,14 +7,15 @@ use Rattle.streams.specs.Tables.{table_of}
 use Rattle.streams.proofs.Written.{table_sound, table_limits, written}
 use Rattle.streams.proofs.table.Table.without.Goals as goal
 
-pub invariant-of-result : goal.invariant-of-result
-invariant-of-result c =
+pub invariant_of-result : goal.invariant_of-result
+invariant_of-result c =
     let t = c.args.self.now in
     let i = c.args.slot in
-    written t i None (limits_cleared (table_of t) i (table_sound t) (table_limits t))
+    let h = written t i None (limits_cleared (table_of t) i (table_sound t) (table_limits t)) in
+    record { eight = h.eight; short = h.short; few = h.few }
 
 pub returns : goal.returns
 returns c =
     let t = c.args.self.now in
     let i = c.args.slot in
-    ap Ok (map-set slot_of t.slots i None) ∙ ap (λ r. and_then r (λ _. Ok (set (table_of t) i None))) c.in-ok-taken.ensures
+    ap Ok (map-set slot_of t.slots i None) ∙ ap (λ r. and_then r (λ _. Ok (set (table_of t) i None))) c.in_ok-taken.ensures
