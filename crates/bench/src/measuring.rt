@@ -21,7 +21,7 @@ struct Sums {
 pub(crate) fn figures_over<R: Rule>(mut machine: Machine, rule: &R, units: u64) -> Figures
     requires some { 0 < units }
     requires early { (state_of machine).now + units ≤ machine_limit }
-    ensures { figures_of result ≡ figures_over (before rule.now) (state_of machine) 0 units }
+    ensures { figures_of result ≡ figures_over (R.before rule.now) (state_of machine) 0 units }
 {
     let sums = sums_over(&mut machine, rule, units);
     Figures {
@@ -36,10 +36,10 @@ pub(crate) fn figures_over<R: Rule>(mut machine: Machine, rule: &R, units: u64) 
 // Works quiet units, none of which passes the last instant of the machine, and sums them up.
 fn sums_over<R: Rule>(machine: &mut Machine, rule: &R, units: u64) -> Sums
     requires { (state_of machine.old).now + units ≤ machine_limit }
-    ensures busy { result.busy ≡ busy_units (before rule.now) (state_of machine.old) 0 units }
-    ensures met { result.met ≡ how_many (λ o. o.met) (ran (before rule.now) (state_of machine.old) (replicate units false)) }
-    ensures missed { result.missed ≡ how_many (λ o. not o.met) (ran (before rule.now) (state_of machine.old) (replicate units false)) }
-    ensures state { state_of machine.new ≡ run (before rule.now) (state_of machine.old) (replicate units false) }
+    ensures busy { result.busy ≡ busy_units (R.before rule.now) (state_of machine.old) 0 units }
+    ensures met { result.met ≡ how_many (λ o. o.met) (ran (R.before rule.now) (state_of machine.old) (replicate units false)) }
+    ensures missed { result.missed ≡ how_many (λ o. not o.met) (ran (R.before rule.now) (state_of machine.old) (replicate units false)) }
+    ensures state { state_of machine.new ≡ run (R.before rule.now) (state_of machine.old) (replicate units false) }
 {
     let mut sums = Sums {
         busy: 0,

@@ -20,8 +20,8 @@ pub trait Precedes<T> {
 
 // The index of the first element: the one that is ahead of all others, if no two have one slot.
 pub fn first_at<T, P: Precedes<T>>(by: &P, xs: &[T]) -> Option<usize>
-    ensures value { result ≡ first_place (ahead by.now) xs.now }
-    ensures first { First place (ahead by.now) xs.now result }
+    ensures value { result ≡ first_place (P.ahead by.now) xs.now }
+    ensures first { First P.place (P.ahead by.now) xs.now result }
 {
     if xs.is_empty() {
         return None;

@@ -24,8 +24,8 @@ impl<R: Rule> Precedes<ReadyFrame> for R {
 
 // The index of the front: the frame that goes before all others under the rule, if no two have one slot.
 pub fn front_at<R: Rule>(rule: &R, frames: &[ReadyFrame]) -> Option<usize>
-    ensures value { result ≡ first_place (before rule.now) (map ready_of frames.now) }
-    ensures first { First (λ f. f.slot) (before rule.now) (map ready_of frames.now) result }
+    ensures value { result ≡ first_place (R.before rule.now) (map ready_of frames.now) }
+    ensures first { First (λ f. f.slot) (R.before rule.now) (map ready_of frames.now) result }
 {
     first_at(rule, frames)
 }

@@ -13,7 +13,7 @@ use std::alloc::{AllocError, Global};
 
 // The lines of the forecast from where a bench stands, with its figures.
 fn forecast_lines<R: Rule>(heap: Global, bench: &Running<R>) -> Result<String, AllocError>
-    ensures { IfOk result (λ s. Foretold (before bench.now.rule) (state_in bench.now) (string_bytes s)) }
+    ensures { IfOk result (λ s. Foretold (R.before bench.now.rule) (state_in bench.now) (string_bytes s)) }
 {
     match bench.forecast_with_figures() {
         (Forecast::Holds { from, to }, Some(figures)) => holding_lines(heap, from, to, figures),

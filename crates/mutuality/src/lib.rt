@@ -65,8 +65,8 @@ impl Rule for FromLast {
 
 // The index of the frame to send next, by the margins and then the rule below.
 pub fn next_to_send<R: Rule>(rule: &Mutuality<R>, frames: &[ReadyFrame]) -> Option<usize>
-    ensures value { result ≡ first_place (by_margin rule.now.longest (before rule.now.below)) (map ready_of frames.now) }
-    ensures first { First (λ f. f.slot) (by_margin rule.now.longest (before rule.now.below)) (map ready_of frames.now) result }
+    ensures value { result ≡ first_place (by_margin rule.now.longest (R.before rule.now.below)) (map ready_of frames.now) }
+    ensures first { First (λ f. f.slot) (by_margin rule.now.longest (R.before rule.now.below)) (map ready_of frames.now) result }
 {
     front_at(rule, frames)
 }

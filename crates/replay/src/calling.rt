@@ -13,7 +13,7 @@ use bus::Rule;
 impl<R: Rule + Drop> Bench<R> {
     // Works a call. A refused call changes nothing. There is no bench after a call that it, laid or running by then, does not have.
     pub fn call(self, call: &Call) -> Option<Bench<R>>
-        ensures bench { option_map stands result ≡ called (before (rule_in self)) (stands self) (call_of call.now) }
+        ensures bench { option_map stands result ≡ called (R.before (rule_in self)) (stands self) (call_of call.now) }
         ensures rule { IfSome result (λ b. rule_in b ≡ rule_in self) }
     {
         match self {
@@ -24,7 +24,7 @@ impl<R: Rule + Drop> Bench<R> {
 
     // Works one call after the other.
     pub fn call_all(self, calls: &[Call]) -> Option<Bench<R>>
-        ensures bench { option_map stands result ≡ calls_from (before (rule_in self)) (Some (stands self)) (map call_of calls.now) }
+        ensures bench { option_map stands result ≡ calls_from (R.before (rule_in self)) (Some (stands self)) (map call_of calls.now) }
         ensures rule { IfSome result (λ b. rule_in b ≡ rule_in self) }
     {
         let mut bench = self;
@@ -37,7 +37,7 @@ impl<R: Rule + Drop> Bench<R> {
 
 // Works a call on a laid bench.
 fn call_laid<R: Rule + Drop>(mut bench: Laid<R>, call: &Call) -> Option<Bench<R>>
-    ensures bench { option_map stands result ≡ called (before bench.rule) (laid (table_in bench)) (call_of call.now) }
+    ensures bench { option_map stands result ≡ called (R.before bench.rule) (laid (table_in bench)) (call_of call.now) }
     ensures rule { IfSome result (λ b. rule_in b ≡ bench.rule) }
 {
     match call {
@@ -72,7 +72,7 @@ fn call_laid<R: Rule + Drop>(mut bench: Laid<R>, call: &Call) -> Option<Bench<R>
 
 // Works a call on a running bench.
 fn call_running<R: Rule + Drop>(mut bench: Running<R>, call: &Call) -> Option<Bench<R>>
-    ensures bench { option_map stands result ≡ called (before bench.rule) (running (table_under bench) (state_in bench)) (call_of call.now) }
+    ensures bench { option_map stands result ≡ called (R.before bench.rule) (running (table_under bench) (state_in bench)) (call_of call.now) }
     ensures rule { IfSome result (λ b. rule_in b ≡ bench.rule) }
 {
     match call {

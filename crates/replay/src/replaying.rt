@@ -12,7 +12,7 @@ use bus::Rule;
 
 // The bench over a rule after a list of calls: it begins laid and empty.
 pub fn after<R: Rule + Drop>(rule: R, calls: &[Call]) -> Option<Bench<R>>
-    ensures bench { option_map stands result ≡ plain (before rule) (map call_of calls.now) }
+    ensures bench { option_map stands result ≡ plain (R.before rule) (map call_of calls.now) }
     ensures rule { IfSome result (λ b. rule_in b ≡ rule) }
 {
     Bench::Laid(Laid::new(rule)).call_all(calls)
@@ -20,7 +20,7 @@ pub fn after<R: Rule + Drop>(rule: R, calls: &[Call]) -> Option<Bench<R>>
 
 // Works a list of calls on a bench over a rule, laid and empty at first, and forecasts if it then runs.
 pub fn replay<R: Rule + Drop>(rule: R, calls: &[Call]) -> Replayed
-    ensures { Replays (before rule) (map call_of calls.now) result }
+    ensures { Replays (R.before rule) (map call_of calls.now) result }
 {
     match after(rule, calls) {
         Some(Bench::Running(bench)) => Replayed::Foretold(bench.forecast()),

@@ -17,8 +17,8 @@ use bus::Rule;
 impl<R: Rule> Running<R> {
     // The figures from the one boundary to the other of a forecast that holds.
     fn figures_between(&self, from: u64, to: u64) -> Option<Figures>
-        requires { Holds (before self.now.rule) (state_in self.now) from to }
-        ensures { option_map figures_of result ≡ Some (figures (before self.now.rule) (state_in self.now) from to) }
+        requires { Holds (R.before self.now.rule) (state_in self.now) from to }
+        ensures { option_map figures_of result ≡ Some (figures (R.before self.now.rule) (state_in self.now) from to) }
     {
         let period = u64::from(self.table.hyper_period());
         let mut machine = self.machine;
@@ -31,8 +31,8 @@ impl<R: Rule> Running<R> {
 
     // The forecast and its figures, by one search.
     pub fn forecast_with_figures(&self) -> (Forecast, Option<Figures>)
-        ensures forecast { Tells (before self.now.rule) (state_in self.now) (answer_of result.0) }
-        ensures figures { Measures (before self.now.rule) (state_in self.now) (option_map figures_of result.1) }
+        ensures forecast { Tells (R.before self.now.rule) (state_in self.now) (answer_of result.0) }
+        ensures figures { Measures (R.before self.now.rule) (state_in self.now) (option_map figures_of result.1) }
     {
         match self.search() {
             Ok((from, to)) => (Forecast::Holds { from, to }, self.figures_between(from, to)),
@@ -42,7 +42,7 @@ impl<R: Rule> Running<R> {
 
     // The figures of the forecast from here: those from its one boundary to the other if it holds, and none if it fails.
     pub fn figures(&self) -> Option<Figures>
-        ensures { Measures (before self.now.rule) (state_in self.now) (option_map figures_of result) }
+        ensures { Measures (R.before self.now.rule) (state_in self.now) (option_map figures_of result) }
     {
         self.forecast_with_figures().1
     }

@@ -25,7 +25,7 @@ impl<R: Rule> Running<R> {
     // The bus at the first boundary, or the first failure before it.
     fn first_boundary(&self, period: u64) -> Result<Machine, Failure>
         requires { period ≡ hyper_period (table_of self.now.table) }
-        ensures { FirstFound (before self.now.rule) (state_in self.now) period result }
+        ensures { FirstFound (R.before self.now.rule) (state_in self.now) period result }
     {
         let mut first = self.machine;
         let units = units_to_boundary(first.now(), period);
@@ -35,7 +35,7 @@ impl<R: Rule> Running<R> {
 
     // The two boundaries with which the forecast holds, or the first failure.
     pub(super) fn search(&self) -> Result<(u64, u64), Failure>
-        ensures { PairFound (before self.now.rule) (state_in self.now) result }
+        ensures { PairFound (R.before self.now.rule) (state_in self.now) result }
     {
         let period = u64::from(self.table.hyper_period());
         let first = self.first_boundary(period)?;
@@ -46,7 +46,7 @@ impl<R: Rule> Running<R> {
     // What is foretold of the quiet schedule from here: that it never has a dynamic failure, with the only two boundaries up to the later at
     // which all histories agree, or its first failure.
     pub fn forecast(&self) -> Forecast
-        ensures { Tells (before self.now.rule) (state_in self.now) (answer_of result) }
+        ensures { Tells (R.before self.now.rule) (state_in self.now) (answer_of result) }
     {
         match self.search() {
             Ok((from, to)) => Forecast::Holds { from, to },

@@ -18,8 +18,8 @@ const MOST_UNITS: u64 = 65535;
 impl<R: Rule> Running<R> {
     // Works quiet units and tells of their outcomes, or gives the first refusal: more than 65,535 units, an instant above its limit.
     pub fn advance(&mut self, units: u64) -> Result<Tally, Refusal>
-        ensures answer { on_ok tally_of result ≡ on_ok tally_after (advanced (before self.old.rule) (state_in self.old) units) }
-        ensures state { state_in self.new ≡ kept (state_in self.old) (on_ok state_after (advanced (before self.old.rule) (state_in self.old) units)) }
+        ensures answer { on_ok tally_of result ≡ on_ok tally_after (advanced (R.before self.old.rule) (state_in self.old) units) }
+        ensures state { state_in self.new ≡ kept (state_in self.old) (on_ok state_after (advanced (R.before self.old.rule) (state_in self.old) units)) }
         ensures table { self.new.table ≡ self.old.table }
         ensures rule { self.new.rule ≡ self.old.rule }
     {
@@ -34,8 +34,8 @@ impl<R: Rule> Running<R> {
 
     // Works one noisy unit and tells of its outcomes, or refuses an instant above its limit.
     pub fn disturb(&mut self) -> Result<Tally, Refusal>
-        ensures answer { on_ok tally_of result ≡ on_ok tally_after (disturbed (before self.old.rule) (state_in self.old)) }
-        ensures state { state_in self.new ≡ kept (state_in self.old) (on_ok state_after (disturbed (before self.old.rule) (state_in self.old))) }
+        ensures answer { on_ok tally_of result ≡ on_ok tally_after (disturbed (R.before self.old.rule) (state_in self.old)) }
+        ensures state { state_in self.new ≡ kept (state_in self.old) (on_ok state_after (disturbed (R.before self.old.rule) (state_in self.old))) }
         ensures table { self.new.table ≡ self.old.table }
         ensures rule { self.new.rule ≡ self.old.rule }
     {
@@ -50,8 +50,8 @@ impl<R: Rule> Running<R> {
 fn quiet_units<R: Rule>(machine: &mut Machine, rule: &R, units: u64) -> Result<Tally, Refusal>
     requires few { units ≤ 65535 }
     requires early { (state_of machine.old).now + units ≤ last_instant }
-    ensures answer { on_ok tally_of result ≡ Ok (worked (before rule.now) (state_of machine.old) (replicate units false)).told }
-    ensures state { state_of machine.new ≡ (worked (before rule.now) (state_of machine.old) (replicate units false)).state }
+    ensures answer { on_ok tally_of result ≡ Ok (worked (R.before rule.now) (state_of machine.old) (replicate units false)).told }
+    ensures state { state_of machine.new ≡ (worked (R.before rule.now) (state_of machine.old) (replicate units false)).state }
 {
     let mut told = nothing();
     for _ in 0..units {

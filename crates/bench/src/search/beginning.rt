@@ -19,9 +19,9 @@ pub(crate) fn beginning<R: Rule>(
     round: Round,
 ) -> Result<(u64, u64), Failure>
     requires state { Searchable (state_of first) period }
-    requires returns { Returns (before rule.now) (state_of first) round.at round.length }
+    requires returns { Returns (R.before rule.now) (state_of first) round.at round.length }
     requires soon { round.at + round.length ≤ 3 * histories (table_of (state_of first)) }
-    ensures { PairFound (before rule.now) (state_of first) result }
+    ensures { PairFound (R.before rule.now) (state_of first) result }
 {
     let mut near = first;
     let mut far = first;

@@ -10,7 +10,7 @@ use bus::{Failure, Machine, Rule};
 // compared with those of the boundaries after it, twice as many each time. It ends at the first failure.
 pub(crate) fn returning<R: Rule>(first: Machine, rule: &R, period: u64) -> Result<Round, Failure>
     requires { Searchable (state_of first) period }
-    ensures { RoundFound (before rule.now) (state_of first) result }
+    ensures { RoundFound (R.before rule.now) (state_of first) result }
 {
     let mut kept = first;
     let mut walker = first;

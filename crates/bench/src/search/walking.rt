@@ -10,8 +10,8 @@ use bus::{Failure, Machine, Rule};
 // Works one quiet unit and gives its first failure, if any.
 fn quiet_unit<R: Rule>(machine: &mut Machine, rule: &R) -> Option<Failure>
     requires { (state_of machine.old).now < machine_limit }
-    ensures first { option_map failure_note result ≡ first_failure (outcomes (before rule.now) false (state_of machine.old)) }
-    ensures state { state_of machine.new ≡ unit (before rule.now) false (state_of machine.old) }
+    ensures first { option_map failure_note result ≡ first_failure (outcomes (R.before rule.now) false (state_of machine.old)) }
+    ensures state { state_of machine.new ≡ unit (R.before rule.now) false (state_of machine.old) }
 {
     match machine.unit(rule, false) {
         Ok(tally) => tally.first,
@@ -22,7 +22,7 @@ fn quiet_unit<R: Rule>(machine: &mut Machine, rule: &R) -> Option<Failure>
 // Works quiet units, up to the first that fails: gives its first failure.
 pub(crate) fn walk<R: Rule>(machine: &mut Machine, rule: &R, units: u64) -> Result<(), Failure>
     requires { (state_of machine.old).now + units ≤ machine_limit }
-    ensures { Walks (before rule.now) (state_of machine.old) units (state_of machine.new) result }
+    ensures { Walks (R.before rule.now) (state_of machine.old) units (state_of machine.new) result }
 {
     for _ in 0..units {
         if let Some(failure) = quiet_unit(machine, rule) {

@@ -13,8 +13,8 @@ const INSTANT_LIMIT: u64 = 2199023255552;
 impl Machine {
     // One unit under a rule, noisy or quiet: what is told of its outcomes. At the last instant it is refused, and nothing changes.
     pub fn unit<R: Rule>(&mut self, rule: &R, noisy: bool) -> Result<Tally, Refusal>
-        ensures answer { on_ok tally_of result ≡ told (before rule.now) noisy (state_of self.old) }
-        ensures state { state_of self.new ≡ moved (before rule.now) noisy (state_of self.old) }
+        ensures answer { on_ok tally_of result ≡ told (R.before rule.now) noisy (state_of self.old) }
+        ensures state { state_of self.new ≡ moved (R.before rule.now) noisy (state_of self.old) }
     {
         if self.state.now == INSTANT_LIMIT {
             return Err(Refusal::InstantLimit);

@@ -17,5 +17,5 @@ pub(crate) struct State {
     pub(super) rows: [Option<Row>; 8],
     pub(super) transit: Option<Transit>,
     ghost eight: { length rows ≡ 8 },
-    ghost early: { (λ x. x.now) ≤ 2 ^ 41 },
+    ghost early: { now ≤ 2 ^ 41 },
 }

@@ -36,7 +36,7 @@ loop-i-preserved g c =
 
 pub returns : goal.returns
 returns g c =
-    let found = walk_all (g.P.Precedes.ahead c.args.by.now) c.args.xs.now _ _ c.loop-i-test.false c.if-is-empty.ensures c.loop-i.invariant.1 in
+    let found = walk_all (g.P.Precedes.ahead c.args.by.now) c.args.xs.now _ _ c.loop-i-test.false c.if-is_empty.ensures c.loop-i.invariant.1 in
     record {
       value = found;
       first =

@@ -9,7 +9,7 @@ use Rattle.bus.proofs.front.front_at.Goals as goal
 
 pub returns : goal.returns
 returns g c =
-    let found = c.first-at.ensures.value ∙ first_place_map ready_of (g.R.Rule.before c.args.rule.now) c.args.frames.now in
+    let found = c.first_at.ensures.value ∙ first_place_map ready_of (g.R.Rule.before c.args.rule.now) c.args.frames.now in
     record {
       value = found;
       first =

@@ -14,8 +14,8 @@ impl State {
     // One unit, noisy or quiet: its six steps, and what is told of its outcomes.
     pub(crate) fn unit<R: Rule>(&mut self, rule: &R, noisy: bool) -> Tally
         requires { (self.now.now < 2 ^ 41) × (∥ Sound (standing self.now) ∥₁) }
-        ensures state { standing self.exit.now ≡ unit (before rule.now) noisy (standing self.entry.now) }
-        ensures told { tally_of result ≡ tally (outcomes (before rule.now) noisy (standing self.entry.now)) }
+        ensures state { standing self.exit.now ≡ unit (R.before rule.now) noisy (standing self.entry.now) }
+        ensures told { tally_of result ≡ tally (outcomes (R.before rule.now) noisy (standing self.entry.now)) }
     {
         self.release();
         self.start(rule);

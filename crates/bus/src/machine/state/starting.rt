@@ -33,7 +33,7 @@ fn shown_frames(rows: &[Option<Row>], instant: u64) -> Option<Few<ReadyFrame>>
 // What the rule is shown of the waiting frame that goes before the others, if any waits.
 fn shown_front<R: Rule>(rule: &R, rows: &[Option<Row>], instant: u64) -> Option<ReadyFrame>
     requires { (length rows.now ≡ 8) × (AllSendable instant (rows_of rows.now)) }
-    ensures { option_map ready_of result ≡ option_map shown (front (before rule.now) (candidates instant 0 (rows_of rows.now))) }
+    ensures { option_map ready_of result ≡ option_map shown (front (R.before rule.now) (candidates instant 0 (rows_of rows.now))) }
 {
     let Some(frames) = shown_frames(rows, instant) else {
         return None;
@@ -48,7 +48,7 @@ fn shown_front<R: Rule>(rule: &R, rows: &[Option<Row>], instant: u64) -> Option<
 // The waiting frame that goes before the others, if any waits.
 fn front<R: Rule>(rule: &R, rows: &[Option<Row>], instant: u64) -> Option<Candidate>
     requires { (length rows.now ≡ 8) × (AllSendable instant (rows_of rows.now)) }
-    ensures { option_map candidate_of result ≡ front (before rule.now) (candidates instant 0 (rows_of rows.now)) }
+    ensures { option_map candidate_of result ≡ front (R.before rule.now) (candidates instant 0 (rows_of rows.now)) }
 {
     let Some(shown) = shown_front(rule, rows, instant) else {
         return None;
@@ -61,7 +61,7 @@ impl State {
     // Step 2: with nothing in transit and some frame waiting, the front starts.
     pub(crate) fn start<R: Rule>(&mut self, rule: &R)
         requires { AllSendable self.now.now (rows_of self.now.rows) }
-        ensures { standing self.exit.now ≡ start (before rule.now) (standing self.entry.now) }
+        ensures { standing self.exit.now ≡ start (R.before rule.now) (standing self.entry.now) }
     {
         if self.transit.is_some() {
             return;

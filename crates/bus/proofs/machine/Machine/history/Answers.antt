@@ -7,7 +7,7 @@ use Rattle.bus.proofs.Writing.{row_at}
 use Rattle.bus.proofs.machine.Machine.history.Goals as goal
 
 pub returns-then-slot-lt8 : goal.returns-then-slot-lt8
-returns-then-slot-lt8 c = c.history-in.ensures ∙ ap (option_map history_of) (row_at c.args.self.now.state.rows _ _ (omega arith))
+returns-then-slot-lt8 c = c.history_in.ensures ∙ ap (option_map history_of) (row_at c.args.self.now.state.rows _ _ (omega arith))
 
 pub returns-else-slot-lt8 : goal.returns-else-slot-lt8
 returns-else-slot-lt8 c =

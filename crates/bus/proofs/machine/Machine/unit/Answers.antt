@@ -6,6 +6,6 @@ use Rattle.bus.specs.Machines.{state_of}
 use Rattle.bus.proofs.machine.Machine.unit.Goals as goal
 
 -- a unit leads from a sound state to a sound one
-pub invariant-of-self : goal.invariant-of-self
-invariant-of-self g c =
-    (∥∥₁_map c.args.self.now.sound (λ h. subst Sound (sym c.unit.ensures.state) (unit_sound _ _ (state_of c.args.self.now) h)), tt)
+pub invariant_of-self : goal.invariant_of-self
+invariant_of-self g c =
+    record { sound = ∥∥₁_map c.args.self.now.sound (λ h. subst Sound (sym c.unit.ensures.state) (unit_sound _ _ (state_of c.args.self.now) h)) }

@@ -9,8 +9,8 @@ use Rattle.bus.specs.States.{standing}
 use Rattle.bus.proofs.Writing.{row_at}
 use Rattle.bus.proofs.machine.state.State.arrival.Goals as goal
 
-pub returns-in-default : goal.returns-in-default
-returns-in-default c = sym (leave_none (standing c.args.self.now) (ap (option_map transit_of) c.in-default.is)).1
+pub returns-in_default : goal.returns-in_default
+returns-in_default c = sym (leave_none (standing c.args.self.now) (ap (option_map transit_of) c.in_default.is)).1
 
 pub returns-then-transit-self : goal.returns-then-transit-self
 returns-then-transit-self c =
@@ -26,7 +26,7 @@ returns c =
     let s = c.args.self.now in
     let t : model.Transit = transit_of c.in-Some.transit in
     let within : c.from.result < length s.rows = omega arith in
-    ap (λ r. map (ended_of s.now) (listed r)) c.ended-in.ensures
+    ap (λ r. map (ended_of s.now) (listed r)) c.ended_in.ensures
     ∙ told s.now t.slot t.frame (not t.marked) _
     ∙ ap (λ o. model.outcome_in o (model.outcome s.now t.slot t.frame (not t.marked)))
     (row_at s.rows _ _ within ∙ ap (λ k. get_or (rows_of s.rows) k None) c.from.ensures)

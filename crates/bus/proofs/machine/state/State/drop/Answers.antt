@@ -15,13 +15,13 @@ loop-slot-preserved c =
     let i = c.loop-slot.slot-index in
     elim c.if-drops.branch [
       | then-drops w ↦
-          subst (λ zs. Done f xs zs (i + 1)) (sym w.slot·items-is) (done_more f xs _ i _ _ (omega arith) w.drop-slot.ensures c.loop-slot.invariant)
+          subst (λ zs. Done f xs zs (i + 1)) (sym w.slot-items-is) (done_more f xs _ i _ _ (omega arith) w.drop_slot.ensures c.loop-slot.invariant)
       | else-drops w ↦
-          subst (λ zs. Done f xs zs (i + 1)) (sym w.slot·items-is) (done_more f xs _ i _ _ (omega arith) (sym w.if-drops.ensures) c.loop-slot.invariant)
+          subst (λ zs. Done f xs zs (i + 1)) (sym w.slot-items-is) (done_more f xs _ i _ _ (omega arith) (sym w.if-drops.ensures) c.loop-slot.invariant)
     ]
 
-pub invariant-of-self : goal.invariant-of-self
-invariant-of-self c = (c.loop-slot.invariant.same ∙ c.args.self.now.eight, (c.args.self.now.early, tt))
+pub invariant_of-self : goal.invariant_of-self
+invariant_of-self c = record { eight = c.loop-slot.invariant.same ∙ c.args.self.now.eight; early = c.args.self.now.early }
 
 pub returns : goal.returns
 unfolding model.drop

@@ -7,4 +7,4 @@ pub returns : goal.returns
 unfolding model.mark
 returns c =
     ap (λ (t : Option model.Transit). record { now = c.args.self.now.now; rows = (standing c.args.self.now).rows; transit = t })
-    c.after-noise-self.ensures
+    c.after_noise-self.ensures

@@ -10,7 +10,7 @@ returns c =
     let i = c.args.candidate.shown.slot in
     let at : c.from-slot.result ≡ i = c.from-slot.ensures ∙ c.slot.ensures in
     let within : c.from-slot.result < length s.rows = omega arith in
-    let rows : rows_of (set s.rows c.from-slot.result c.without-waiting.result) ≡ model.in_slot i (model.with_waiting None) (rows_of s.rows) =
-    one_slot (model.with_waiting None) s.rows _ _ _ within c.without-waiting.ensures
+    let rows : rows_of (set s.rows c.from-slot.result c.without_waiting.result) ≡ model.in_slot i (model.with_waiting None) (rows_of s.rows) =
+    one_slot (model.with_waiting None) s.rows _ _ _ within c.without_waiting.ensures
     ∙ ap (λ k. model.in_slot k (model.with_waiting None) (rows_of s.rows)) at in
     cc

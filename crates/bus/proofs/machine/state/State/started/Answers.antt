@@ -9,10 +9,10 @@ loop-i-init c = record { eight = refl; filled = λ k low. absurd (omega arith) }
 
 pub loop-i-preserved : goal.loop-i-preserved
 loop-i-preserved c =
-    filled_more c.args.table.now _ _ _ _ (omega arith) c.stream.ensures c.fresh-slot.ensures c.loop-i.invariant
+    filled_more c.args.table.now _ _ _ _ (omega arith) c.stream.ensures c.fresh_slot.ensures c.loop-i.invariant
 
-pub invariant-of-result : goal.invariant-of-result
-invariant-of-result c = (c.loop-i.invariant.eight, (omega arith, tt))
+pub invariant_of-result : goal.invariant_of-result
+invariant_of-result c = record { eight = c.loop-i.invariant.eight; early = omega arith }
 
 pub returns : goal.returns
 unfolding started

@@ -23,5 +23,5 @@ returns g c =
     } in
     record {
       state = passed_unit _ _ _ _ _ _ _ _ _ p;
-      told = passed_tally _ _ _ _ _ _ _ _ _ p _ _ _ c.arrival-arrived.ensures c.drops-after-ended.ensures c.of.ensures;
+      told = passed_tally _ _ _ _ _ _ _ _ _ p _ _ _ c.arrival-arrived.ensures c.drops_after-ended.ensures c.of.ensures;
     }

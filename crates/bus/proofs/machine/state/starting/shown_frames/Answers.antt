@@ -9,8 +9,8 @@ use Rattle.bus.proofs.machine.state.starting.shown_frames.Goals as goal
 pub loop-i-init : goal.loop-i-init
 loop-i-init c = record { few = omega arith; whole = refl }
 
-pub shown-slot-requires : goal.shown-slot-requires
-shown-slot-requires c =
+pub shown_slot-requires : goal.shown_slot-requires
+shown_slot-requires c =
     let at : get_or (rows_of c.args.rows.now) c.loop-i.i None ≡ option_map row_of c.index-rows-i.result =
     get_or-map (option_map row_of) c.args.rows.now c.loop-i.i c.index-rows-i.result None c.loop-i-test.true
     ∙ ap (option_map row_of) (sym c.index-rows-i.is) in
@@ -21,7 +21,7 @@ follow-requires c = (omega arith, omega arith)
 
 pub loop-i-preserved : goal.loop-i-preserved
 loop-i-preserved c =
-    gathered_more _ _ _ _ _ _ _ _ _ _ c.loop-i-test.true c.index-rows-i.is c.shown-slot.ensures c.follow.ensures c.loop-i.invariant
+    gathered_more _ _ _ _ _ _ _ _ _ _ c.loop-i-test.true c.index-rows-i.is c.shown_slot.ensures c.follow.ensures c.loop-i.invariant
 
 pub returns : goal.returns
 returns c = gathered_all _ _ _ _ _ _ c.loop-i-test.false c.loop-i.invariant ∙ shown_slots c.args.instant 0 c.args.rows.now

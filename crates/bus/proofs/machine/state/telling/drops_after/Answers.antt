@@ -16,7 +16,7 @@ follow-requires-in-loop-i c = (
 
 pub loop-i-preserved : goal.loop-i-preserved
 loop-i-preserved c =
-    gathered_more _ _ _ _ _ _ _ _ _ _ c.loop-i-test.true c.index-rows-i.is c.dropped-slot.ensures c.follow-in-loop-i.ensures c.loop-i.invariant
+    gathered_more _ _ _ _ _ _ _ _ _ _ c.loop-i-test.true c.index-rows-i.is c.dropped_slot.ensures c.follow-in-loop-i.ensures c.loop-i.invariant
 
 pub returns : goal.returns
 returns c =
