@@ -3,7 +3,7 @@ use Rattle.model.specs.Fields.{start, value, extent, window}
 use Rattle.tablefile.proofs.Parts.{behind}
 use Rattle.tablefile.proofs.Walk.{At, onward, room, reads}
 use Rattle.tablefile.proofs.fields.spelled.Goals as goal
-use Rattle.tablefile.proofs.fields.spelled.Goals.{After-two-bytes-t, After-two-bytes-c, After-two-bytes-d, After-one-byte-k, After-one-byte-m}
+use Rattle.tablefile.proofs.fields.spelled.Goals.{After-two_bytes-t, After-two_bytes-c, After-two_bytes-d, After-one_byte-k, After-one_byte-m}
 
 some : (r : List ℕ) → length r ≡ extent (get_or r 0 0) → 1 ≤ length r
 unfolding start
@@ -14,55 +14,55 @@ at_t : (r : List ℕ) → At r 0 (take (length r - 1) (drop 1 r))
 unfolding start
 at_t r = behind 1 r
 
-at_c : (c : After-two-bytes-t) → At c.args.bytes.now 1 c.two-bytes-t.result.1.now
-at_c c = onward c.args.bytes.now 0 2 _ _ _ refl (at_t c.args.bytes.now) c.has.ensures c.two-bytes-t.ensures.rest
+at_c : (c : After-two_bytes-t) → At c.args.bytes.now 1 c.two_bytes-t.result.1.now
+at_c c = onward c.args.bytes.now 0 2 _ _ _ refl (at_t c.args.bytes.now) c.has.ensures c.two_bytes-t.ensures.rest
 
-at_d : (c : After-two-bytes-c) → At c.args.bytes.now 2 c.two-bytes-c.result.1.now
-at_d c = onward c.args.bytes.now 1 2 _ _ _ refl (at_c (goal.at.After-two-bytes-c c).After-two-bytes-t) c.has-in-len1-up.ensures c.two-bytes-c.ensures.rest
+at_d : (c : After-two_bytes-c) → At c.args.bytes.now 2 c.two_bytes-c.result.1.now
+at_d c = onward c.args.bytes.now 1 2 _ _ _ refl (at_c (goal.at.After-two_bytes-c c).After-two_bytes-t) c.has-in-len1-up.ensures c.two_bytes-c.ensures.rest
 
-at_k : (c : After-two-bytes-d) → At c.args.bytes.now 3 c.two-bytes-d.result.1.now
-at_k c = onward c.args.bytes.now 2 2 _ _ _ refl (at_d (goal.at.After-two-bytes-d c).After-two-bytes-c) c.has-in-len1-up-2.ensures c.two-bytes-d.ensures.rest
+at_k : (c : After-two_bytes-d) → At c.args.bytes.now 3 c.two_bytes-d.result.1.now
+at_k c = onward c.args.bytes.now 2 2 _ _ _ refl (at_d (goal.at.After-two_bytes-d c).After-two_bytes-c) c.has-in-len1-up-2.ensures c.two_bytes-d.ensures.rest
 
-at_m : (c : After-one-byte-k) → At c.args.bytes.now 4 c.one-byte-k.result.1.now
-at_m c = onward c.args.bytes.now 3 1 _ _ _ refl (at_k (goal.at.After-one-byte-k c).After-two-bytes-d) c.has-in-len1-up-3.ensures c.one-byte-k.ensures.rest
+at_m : (c : After-one_byte-k) → At c.args.bytes.now 4 c.one_byte-k.result.1.now
+at_m c = onward c.args.bytes.now 3 1 _ _ _ refl (at_k (goal.at.After-one_byte-k c).After-two_bytes-d) c.has-in-len1-up-3.ensures c.one_byte-k.ensures.rest
 
-at_h : (c : After-one-byte-m) → At c.args.bytes.now 5 c.one-byte-m.result.1.now
-at_h c = onward c.args.bytes.now 4 1 _ _ _ refl (at_m (goal.at.After-one-byte-m c).After-one-byte-k) c.has-in-len1-up-4.ensures c.one-byte-m.ensures.rest
+at_h : (c : After-one_byte-m) → At c.args.bytes.now 5 c.one_byte-m.result.1.now
+at_h c = onward c.args.bytes.now 4 1 _ _ _ refl (at_m (goal.at.After-one_byte-m c).After-one_byte-k) c.has-in-len1-up-4.ensures c.one_byte-m.ensures.rest
 
 pub unreachable-requires : goal.unreachable-requires
 unreachable-requires c = let h = some c.args.bytes.now c.requires in search rules
 
-pub two-bytes-t-requires : goal.two-bytes-t-requires
-two-bytes-t-requires c = room c.args.bytes.now 0 2 _ _ (omega arith) c.requires refl (at_t c.args.bytes.now) c.has.ensures
+pub two_bytes-t-requires : goal.two_bytes-t-requires
+two_bytes-t-requires c = room c.args.bytes.now 0 2 _ _ (omega arith) c.requires refl (at_t c.args.bytes.now) c.has.ensures
 
-pub two-bytes-c-requires : goal.two-bytes-c-requires
-two-bytes-c-requires c = room c.args.bytes.now 1 2 _ _ (omega arith) c.requires refl (at_c (goal.at.two-bytes-c-requires c).After-two-bytes-t) c.has-in-len1-up.ensures
+pub two_bytes-c-requires : goal.two_bytes-c-requires
+two_bytes-c-requires c = room c.args.bytes.now 1 2 _ _ (omega arith) c.requires refl (at_c (goal.at.two_bytes-c-requires c).After-two_bytes-t) c.has-in-len1-up.ensures
 
-pub two-bytes-d-requires : goal.two-bytes-d-requires
-two-bytes-d-requires c = room c.args.bytes.now 2 2 _ _ (omega arith) c.requires refl (at_d (goal.at.two-bytes-d-requires c).After-two-bytes-c) c.has-in-len1-up-2.ensures
+pub two_bytes-d-requires : goal.two_bytes-d-requires
+two_bytes-d-requires c = room c.args.bytes.now 2 2 _ _ (omega arith) c.requires refl (at_d (goal.at.two_bytes-d-requires c).After-two_bytes-c) c.has-in-len1-up-2.ensures
 
-pub one-byte-k-requires : goal.one-byte-k-requires
-one-byte-k-requires c = room c.args.bytes.now 3 1 _ _ (omega arith) c.requires refl (at_k (goal.at.one-byte-k-requires c).After-two-bytes-d) c.has-in-len1-up-3.ensures
+pub one_byte-k-requires : goal.one_byte-k-requires
+one_byte-k-requires c = room c.args.bytes.now 3 1 _ _ (omega arith) c.requires refl (at_k (goal.at.one_byte-k-requires c).After-two_bytes-d) c.has-in-len1-up-3.ensures
 
-pub one-byte-m-requires : goal.one-byte-m-requires
-one-byte-m-requires c = room c.args.bytes.now 4 1 _ _ (omega arith) c.requires refl (at_m (goal.at.one-byte-m-requires c).After-one-byte-k) c.has-in-len1-up-4.ensures
+pub one_byte-m-requires : goal.one_byte-m-requires
+one_byte-m-requires c = room c.args.bytes.now 4 1 _ _ (omega arith) c.requires refl (at_m (goal.at.one_byte-m-requires c).After-one_byte-k) c.has-in-len1-up-4.ensures
 
-pub two-bytes-h-requires : goal.two-bytes-h-requires
-two-bytes-h-requires c = room c.args.bytes.now 5 2 _ _ (omega arith) c.requires refl (at_h (goal.at.two-bytes-h-requires c).After-one-byte-m) c.has-in-len1-up-5.ensures
+pub two_bytes-h-requires : goal.two_bytes-h-requires
+two_bytes-h-requires c = room c.args.bytes.now 5 2 _ _ (omega arith) c.requires refl (at_h (goal.at.two_bytes-h-requires c).After-one_byte-m) c.has-in-len1-up-5.ensures
 
 pub returns : goal.returns
 returns c =
     let r = c.args.bytes.now in
     let now = goal.at.returns c in
-    let t = reads r 0 2 _ _ _ _ refl (at_t r) c.has.ensures c.two-bytes-t.ensures.value in
-    let k = reads r 3 1 _ _ _ _ refl (at_k now.After-two-bytes-d) c.has-in-len1-up-3.ensures c.one-byte-k.ensures.value in
+    let t = reads r 0 2 _ _ _ _ refl (at_t r) c.has.ensures c.two_bytes-t.ensures.value in
+    let k = reads r 3 1 _ _ _ _ refl (at_k now.After-two_bytes-d) c.has-in-len1-up-3.ensures c.one_byte-k.ensures.value in
     record {
       t = t;
-      c = reads r 1 2 _ _ _ _ refl (at_c now.After-two-bytes-t) c.has-in-len1-up.ensures c.two-bytes-c.ensures.value;
-      d = reads r 2 2 _ _ _ _ refl (at_d now.After-two-bytes-c) c.has-in-len1-up-2.ensures c.two-bytes-d.ensures.value ∙ ap (value r 2) t;
+      c = reads r 1 2 _ _ _ _ refl (at_c now.After-two_bytes-t) c.has-in-len1-up.ensures c.two_bytes-c.ensures.value;
+      d = reads r 2 2 _ _ _ _ refl (at_d now.After-two_bytes-c) c.has-in-len1-up-2.ensures c.two_bytes-d.ensures.value ∙ ap (value r 2) t;
       k = k;
-      m = reads r 4 1 _ _ _ _ refl (at_m now.After-one-byte-k) c.has-in-len1-up-4.ensures c.one-byte-m.ensures.value ∙ ap (value r 4) k;
+      m = reads r 4 1 _ _ _ _ refl (at_m now.After-one_byte-k) c.has-in-len1-up-4.ensures c.one_byte-m.ensures.value ∙ ap (value r 4) k;
       h = λ small.
-          reads r 5 2 _ _ _ _ refl (at_h now.After-one-byte-m) c.has-in-len1-up-5.ensures c.two-bytes-h.ensures.value
+          reads r 5 2 _ _ _ _ refl (at_h now.After-one_byte-m) c.has-in-len1-up-5.ensures c.two_bytes-h.ensures.value
           ∙ ap (value r 5) (c.all_met.ensures small ∙ ap (λ n. 2 ^ n - 1) k);
     }

@@ -5,18 +5,18 @@ use Rattle.model.specs.Layout.{next}
 use Rattle.tablefile.specs.Stands.{progress_of}
 use Rattle.tablefile.proofs.Steps.{slots_skip, slots_next, slots_stay}
 use Rattle.tablefile.proofs.reading.lay_all.Goals as goal
-use Rattle.tablefile.proofs.reading.lay_all.Goals.{then-has+in-ok-lay, else-has}
+use Rattle.tablefile.proofs.reading.lay_all.Goals.{then-has+in_ok-lay, else-has}
 
-pub returns-in-err-lay : goal.returns-in-err-lay
-returns-in-err-lay c =
-    let p = err_from_is_err_and c.from-residual.result c.from-residual.ensures.1 in
+pub returns-in_err-lay : goal.returns-in_err-lay
+returns-in_err-lay c =
+    let p = err_from_is_err_and c.from_residual.result c.from_residual.ensures.1 in
     let file = c.args.reader.now.file.now in
     let here = progress_of c.loop-slot.reader in
     rw (p.1, p.2)
     record {
       cases =
           slots_stay file _ _ 8 (omega (arith, c.loop-slot-test.true))
-          (slots_next file c.loop-slot.slot here c.loop-slot.invariant.0 (ap (λ n. stands n c.loop-slot.slot) (sym c.requires.map) ∙ sym c.has.ensures ∙ c.if-has.true) (ap (λ l. next l c.loop-slot.slot here) (sym c.loop-slot.invariant.1) ∙ c.in-err-lay.ensures.cases));
+          (slots_next file c.loop-slot.slot here c.loop-slot.invariant.0 (ap (λ n. stands n c.loop-slot.slot) (sym c.requires.map) ∙ sym c.has.ensures ∙ c.if-has.true) (ap (λ l. next l c.loop-slot.slot here) (sym c.loop-slot.invariant.1) ∙ c.in_err-lay.ensures.cases));
     }
 
 pub loop-slot-preserved : goal.loop-slot-preserved
@@ -25,9 +25,9 @@ loop-slot-preserved c =
     let here = progress_of c.loop-slot.reader in
     let bit : stands (get_or file 0 0) c.loop-slot.slot ≡ c.has.result = ap (λ n. stands n c.loop-slot.slot) (sym c.requires.map) ∙ sym c.has.ensures in
     elim c.if-has.branch [
-      | then-has+in-ok-lay w ↦ (
-        slots_next file c.loop-slot.slot here c.loop-slot.invariant.0 (bit ∙ w.if-has.true) (ap (λ l. next l c.loop-slot.slot here) (sym c.loop-slot.invariant.1) ∙ w.in-ok-lay.ensures.cases ∙ ap (λ r. Ok (progress_of r)) (sym w.reader-is)),
-        ap (λ r. r.file.now) w.reader-is ∙ w.in-ok-lay.ensures.file ∙ c.loop-slot.invariant.1,
+      | then-has+in_ok-lay w ↦ (
+        slots_next file c.loop-slot.slot here c.loop-slot.invariant.0 (bit ∙ w.if-has.true) (ap (λ l. next l c.loop-slot.slot here) (sym c.loop-slot.invariant.1) ∙ w.in_ok-lay.ensures.cases ∙ ap (λ r. Ok (progress_of r)) (sym w.reader-is)),
+        ap (λ r. r.file.now) w.reader-is ∙ w.in_ok-lay.ensures.file ∙ c.loop-slot.invariant.1,
       )
       | else-has w ↦ (
         slots_skip file c.loop-slot.slot here c.loop-slot.invariant.0 (bit ∙ w.if-has.false) ∙ ap (λ r. Ok (progress_of r)) (sym w.reader-is),
