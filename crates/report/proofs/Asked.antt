@@ -1,6 +1,6 @@
 -- An input with a known word. Assumes nothing.
 use Rattle.std.proofs.Common.{◌≡◌, ℕ, suc, ◌+◌, ◌-◌, List, ◌∷◌, ◌++◌, length, take, drop, Some, refl, ap, ◌∙◌, add-one, arith}
-use Rattle.tablefile.specs.Layout.{judged}
+use Rattle.model.specs.Layout.{judged}
 use Rattle.tablefile.proofs.Parts.{behind}
 use Rattle.tablefile.proofs.Spelled.{spelled_exactly}
 use Rattle.report.specs.Answers.{Admits, under, split, asked, line, printed}

@@ -4,8 +4,8 @@ use Rattle.refusal.specs.declared.Fault.{Fault}
 use Rattle.refusal.specs.declared.Refusal.TheVariants.{WordUnknown}
 use Rattle.refusal.specs.declared.Layer.TheVariants.{Word}
 use Rattle.model.specs.Tables.{Table, hyper_period, histories}
-use Rattle.tablefile.specs.Layout.{judged}
-use Rattle.tablefile.specs.Spelling.{Spells}
+use Rattle.model.specs.Layout.{judged}
+use Rattle.model.specs.Spelling.{Spells}
 use Rattle.report.specs.Words.{word, named, newline}
 use Rattle.report.specs.Lines.{refused, admitted}
 use Rattle.report.specs.declared.ranking.Ranking.{Ranking}

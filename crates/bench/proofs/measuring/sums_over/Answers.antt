@@ -17,10 +17,10 @@ unwrap-requires g c =
 next :
     (g : given.Over) (c : After-unwrap g)
     → Summed (g.R.Rule.before c.args.rule.now) (state_of c.args.machine.now) (c.loop.counter + 1) (state_of c.unit.new.self)
-    (c.loop.sums.busy + cond c.is-busy-next-busy.result 1 0) (c.loop.sums.met + c.unwrap.result.met) (c.loop.sums.missed + c.unwrap.result.missed)
+    (c.loop.sums.busy + cond c.is_busy_next-busy.result 1 0) (c.loop.sums.met + c.unwrap.result.met) (c.loop.sums.missed + c.unwrap.result.missed)
 next g c =
     summed_on _ _ c.loop.counter c.args.units _ _ _ _ c.loop.invariant c.loop-test.true c.requires tally_of c.unit.result c.unwrap.result
-    _ _ c.unit.ensures.answer c.unwrap.ensures c.unit.ensures.state (c.is-busy-next-busy.ensures _)
+    _ _ c.unit.ensures.answer c.unwrap.ensures c.unit.ensures.state (c.is_busy_next-busy.ensures _)
 
 pub with-sums-requires : goal.with-sums-requires
 with-sums-requires g c =

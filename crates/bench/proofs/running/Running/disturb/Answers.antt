@@ -7,8 +7,8 @@ use Rattle.bench.proofs.Keeping.{kept_run, early_run}
 use Rattle.bench.specs.Stands.{state_in}
 use Rattle.bench.proofs.running.Running.disturb.Goals as goal
 
-pub invariant-of-self : goal.invariant-of-self
-invariant-of-self g c =
+pub invariant_of-self : goal.invariant_of-self
+invariant_of-self g c =
     let b = c.args.self.now in
     let before = g.R.Rule.before b.rule in
     let early : (state_in b).now < last_instant = omega arith in

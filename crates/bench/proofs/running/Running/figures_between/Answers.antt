@@ -12,33 +12,33 @@ use Rattle.bench.proofs.Foretelling.{some_period}
 use Rattle.bench.proofs.Stretches.{figures_between}
 use Rattle.bench.proofs.running.Running.figures_between.Goals as goal
 
-pub units-to-boundary-requires : goal.units-to-boundary-requires
-units-to-boundary-requires g c =
+pub units_to_boundary-requires : goal.units_to_boundary-requires
+units_to_boundary-requires g c =
     let b = c.args.self.now in
     let s = state_in b in
     let is : c.from-period.result ≡ hyper_period (table_of b.table) = cc in
     omega (arith, is, some_period s (held_sound s b.machine.sound) (table_of b.table) b.same)
 
-pub overflow-mul-units : goal.overflow-mul-units
-overflow-mul-units g c =
+pub overflow_mul-units : goal.overflow_mul-units
+overflow_mul-units g c =
     let b = c.args.self.now in
     let s = state_in b in
     let is : c.from-period.result ≡ hyper_period (table_of b.table) = cc in
-    let e : c.units-to-boundary.result ≡ (c.from-period.result - s.now % c.from-period.result) % c.from-period.result = cc in
+    let e : c.units_to_boundary.result ≡ (c.from-period.result - s.now % c.from-period.result) % c.from-period.result = cc in
     let w =
     way s (held_sound s b.machine.sound) (table_of b.table) b.same b.table.short b.table.few b.early
-    (g.R.Rule.before b.rule) c.args.from c.args.to c.requires c.from-period.result c.units-to-boundary.result is e in
+    (g.R.Rule.before b.rule) c.args.from c.args.to c.requires c.from-period.result c.units_to_boundary.result is e in
     omega (arith, w.few)
 
-pub overflow-add-units : goal.overflow-add-units
-overflow-add-units g c =
+pub overflow_add-units : goal.overflow_add-units
+overflow_add-units g c =
     let b = c.args.self.now in
     let s = state_in b in
     let is : c.from-period.result ≡ hyper_period (table_of b.table) = cc in
-    let e : c.units-to-boundary.result ≡ (c.from-period.result - s.now % c.from-period.result) % c.from-period.result = cc in
+    let e : c.units_to_boundary.result ≡ (c.from-period.result - s.now % c.from-period.result) % c.from-period.result = cc in
     let w =
     way s (held_sound s b.machine.sound) (table_of b.table) b.same b.table.short b.table.few b.early
-    (g.R.Rule.before b.rule) c.args.from c.args.to c.requires c.from-period.result c.units-to-boundary.result is e in
+    (g.R.Rule.before b.rule) c.args.from c.args.to c.requires c.from-period.result c.units_to_boundary.result is e in
     omega (arith, w.few)
 
 pub walk-requires : goal.walk-requires
@@ -46,32 +46,32 @@ walk-requires g c =
     let b = c.args.self.now in
     let s = state_in b in
     let is : c.from-period.result ≡ hyper_period (table_of b.table) = cc in
-    let e : c.units-to-boundary.result ≡ (c.from-period.result - s.now % c.from-period.result) % c.from-period.result = cc in
+    let e : c.units_to_boundary.result ≡ (c.from-period.result - s.now % c.from-period.result) % c.from-period.result = cc in
     let w =
     way s (held_sound s b.machine.sound) (table_of b.table) b.same b.table.short b.table.few b.early
-    (g.R.Rule.before b.rule) c.args.from c.args.to c.requires c.from-period.result c.units-to-boundary.result is e in
+    (g.R.Rule.before b.rule) c.args.from c.args.to c.requires c.from-period.result c.units_to_boundary.result is e in
     omega (arith, w.few, b.early)
 
-pub overflow-mul-to : goal.overflow-mul-to
-overflow-mul-to g c =
+pub overflow_mul-to : goal.overflow_mul-to
+overflow_mul-to g c =
     let b = c.args.self.now in
     let s = state_in b in
     let is : c.from-period.result ≡ hyper_period (table_of b.table) = cc in
-    let e : c.units-to-boundary.result ≡ (c.from-period.result - s.now % c.from-period.result) % c.from-period.result = cc in
+    let e : c.units_to_boundary.result ≡ (c.from-period.result - s.now % c.from-period.result) % c.from-period.result = cc in
     let w =
     way s (held_sound s b.machine.sound) (table_of b.table) b.same b.table.short b.table.few b.early
-    (g.R.Rule.before b.rule) c.args.from c.args.to c.requires c.from-period.result c.units-to-boundary.result is e in
+    (g.R.Rule.before b.rule) c.args.from c.args.to c.requires c.from-period.result c.units_to_boundary.result is e in
     omega (arith, w.few)
 
-pub figures-over-requires : goal.figures-over-requires
-figures-over-requires g c =
+pub figures_over-requires : goal.figures_over-requires
+figures_over-requires g c =
     let b = c.args.self.now in
     let s = state_in b in
     let is : c.from-period.result ≡ hyper_period (table_of b.table) = cc in
-    let e : c.units-to-boundary.result ≡ (c.from-period.result - s.now % c.from-period.result) % c.from-period.result = cc in
+    let e : c.units_to_boundary.result ≡ (c.from-period.result - s.now % c.from-period.result) % c.from-period.result = cc in
     let w =
     way s (held_sound s b.machine.sound) (table_of b.table) b.same b.table.short b.table.few b.early
-    (g.R.Rule.before b.rule) c.args.from c.args.to c.requires c.from-period.result c.units-to-boundary.result is e in
+    (g.R.Rule.before b.rule) c.args.from c.args.to c.requires c.from-period.result c.units_to_boundary.result is e in
     record {
       some = w.some;
       early = omega (arith, w.few, b.early, walk_now _ _ _ _ c.in-Ok.ensures);
@@ -82,10 +82,10 @@ returns-in-Ok g c =
     let b = c.args.self.now in
     let s = state_in b in
     let is : c.from-period.result ≡ hyper_period (table_of b.table) = cc in
-    let e : c.units-to-boundary.result ≡ (c.from-period.result - s.now % c.from-period.result) % c.from-period.result = cc in
+    let e : c.units_to_boundary.result ≡ (c.from-period.result - s.now % c.from-period.result) % c.from-period.result = cc in
     let w =
     way s (held_sound s b.machine.sound) (table_of b.table) b.same b.table.short b.table.few b.early
-    (g.R.Rule.before b.rule) c.args.from c.args.to c.requires c.from-period.result c.units-to-boundary.result is e in
+    (g.R.Rule.before b.rule) c.args.from c.args.to c.requires c.from-period.result c.units_to_boundary.result is e in
     let x = state_of c.walk.new.machine in
     let walked = c.in-Ok.ensures in
     let before = g.R.Rule.before b.rule in

@@ -10,8 +10,8 @@ use Rattle.bench.specs.Stands.{state_in}
 use Rattle.bench.proofs.Foretelling.{some_period, units_are_first, first_soon, first_searchable}
 use Rattle.bench.proofs.running.Running.first_boundary.Goals as goal
 
-pub units-to-boundary-units-requires : goal.units-to-boundary-units-requires
-units-to-boundary-units-requires g c =
+pub units_to_boundary-units-requires : goal.units_to_boundary-units-requires
+units_to_boundary-units-requires g c =
     let b = c.args.self.now in
     let s = state_in b in
     omega (arith, c.requires, some_period s (held_sound s b.machine.sound) (table_of b.table) b.same)
@@ -22,7 +22,7 @@ walk-requires g c =
     let s = state_in b in
     let h = held_sound s b.machine.sound in
     let t = table_of b.table in
-    let n = c.units-to-boundary-units.result in
+    let n = c.units_to_boundary-units.result in
     let e : n ≡ (hyper_period t - s.now % hyper_period t) % hyper_period t = cc in
     first_soon s h t b.same b.table.short b.table.few b.early n (units_are_first s h t b.same n e)
 
@@ -34,8 +34,8 @@ returns g c =
     let t = table_of b.table in
     let before = g.R.Rule.before b.rule in
     let x = state_of c.walk.new.machine in
-    let n = c.units-to-boundary-units.result in
+    let n = c.units_to_boundary-units.result in
     let e : n ≡ (hyper_period t - s.now % hyper_period t) % hyper_period t = cc in
     let w : Walked before s (units_to s 0) x =
-    subst (λ k. Walked before s k x) (units_are_first s h t b.same n e) c.in-ok-walk.ensures in
+    subst (λ k. Walked before s k x) (units_are_first s h t b.same n e) c.in_ok-walk.ensures in
     (w, subst (Searchable x) (sym c.requires) (first_searchable s h t b.same b.table.short b.table.few b.early before x w))

@@ -5,14 +5,14 @@ use Rattle.bench.specs.Stands.{state_in}
 use Rattle.bench.proofs.Foretelling.{fails_onward, pair_onward}
 use Rattle.bench.proofs.running.Running.search.Goals as goal
 
-pub returns-in-err-round : goal.returns-in-err-round
-returns-in-err-round g c =
+pub returns-in_err-round : goal.returns-in_err-round
+returns-in_err-round g c =
     let b = c.args.self.now in
     let s = state_in b in
     let before = g.R.Rule.before b.rule in
-    let p = err_from_is_err_and c.from-residual-in-err-round.result c.from-residual-in-err-round.ensures.1 in
-    let there = fails_onward before s (held_sound s b.machine.sound) (state_of c.in-ok-first.first) c.in-ok-first.ensures.0
-    (failure_note c.in-err-round.field-0.0) c.in-err-round.ensures in
+    let p = err_from_is_err_and c.from_residual-in_err-round.result c.from_residual-in_err-round.ensures.1 in
+    let there = fails_onward before s (held_sound s b.machine.sound) (state_of c.in_ok-first.first) c.in_ok-first.ensures.0
+    (failure_note c.in_err-round.field-0.0) c.in_err-round.ensures in
     rw (p.1, p.2) there
 
 pub returns : goal.returns
@@ -20,5 +20,5 @@ returns g c =
     let b = c.args.self.now in
     let s = state_in b in
     let before = g.R.Rule.before b.rule in
-    pair_onward before s (held_sound s b.machine.sound) (state_of c.in-ok-first.first) c.in-ok-first.ensures.0
+    pair_onward before s (held_sound s b.machine.sound) (state_of c.in_ok-first.first) c.in_ok-first.ensures.0
     c.beginning.result c.beginning.ensures

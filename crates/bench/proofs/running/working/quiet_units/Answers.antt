@@ -5,23 +5,23 @@ use Rattle.bench.specs.Tallies.{together}
 use Rattle.bench.proofs.Advancing.{Led, led_none, led_few, led_never, led_on}
 use Rattle.bench.proofs.running.working.quiet_units.Given as given
 use Rattle.bench.proofs.running.working.quiet_units.Goals as goal
-use Rattle.bench.proofs.running.working.quiet_units.Goals.{In-ok-unit}
+use Rattle.bench.proofs.running.working.quiet_units.Goals.{In_ok-unit}
 
 pub loop-init : goal.loop-init
 loop-init g c = subst (Led _ _ 0 _) (sym c.nothing-told.ensures) (led_none _ _)
 
-pub returns-in-err-unit : goal.returns-in-err-unit
-returns-in-err-unit g c =
-    absurd (led_never _ _ c.loop.counter c.args.units _ _ c.loop.invariant c.loop-test.true c.requires.early _ c.in-err-unit.ensures.answer)
+pub returns-in_err-unit : goal.returns-in_err-unit
+returns-in_err-unit g c =
+    absurd (led_never _ _ c.loop.counter c.args.units _ _ c.loop.invariant c.loop-test.true c.requires.early _ c.in_err-unit.ensures.answer)
 
 -- what the units up to this one tell
 next :
-    (g : given.Over) (c : In-ok-unit g)
+    (g : given.Over) (c : In_ok-unit g)
     → Led (g.R.Rule.before c.args.rule.now) (state_of c.args.machine.now) (c.loop.counter + 1)
-    (state_of c.unit.new.self) (together (tally_of c.loop.told) (tally_of c.in-ok-unit.field-0))
+    (state_of c.unit.new.self) (together (tally_of c.loop.told) (tally_of c.in_ok-unit.field-0))
 next g c =
     led_on _ _ c.loop.counter c.args.units _ _ c.loop.invariant c.loop-test.true c.requires.early _ _
-    c.in-ok-unit.ensures.answer c.in-ok-unit.ensures.state
+    c.in_ok-unit.ensures.answer c.in_ok-unit.ensures.state
 
 pub together-told-requires : goal.together-told-requires
 together-told-requires g c =
@@ -31,4 +31,4 @@ together-told-requires g c =
     record { met = omega (arith, few.0); missed = omega (arith, few.1); failures = omega (arith, few.2) }
 
 pub loop-preserved : goal.loop-preserved
-loop-preserved g c = subst (Led _ _ _ _) (sym c.together-told.ensures) (next g (goal.at.loop-preserved g c).In-ok-unit)
+loop-preserved g c = subst (Led _ _ _ _) (sym c.together-told.ensures) (next g (goal.at.loop-preserved g c).In_ok-unit)

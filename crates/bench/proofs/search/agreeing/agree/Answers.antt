@@ -11,15 +11,15 @@ loop-slot-preserved c =
     let i = c.loop-slot.slot in
     agreed_more s t i c.loop-slot.invariant
     (sym (c.bits.ensures ∙ slot_bits s i _ c.history.ensures)
-    ∙ c.if-not-are-same.ensures
+    ∙ c.if-not-are_same.ensures
     ∙ c.bits-in-loop-slot.ensures ∙ slot_bits t i _ c.history-in-loop-slot.ensures)
 
-pub returns-then-not-are-same : goal.returns-then-not-are-same
-returns-then-not-are-same c e =
+pub returns-then-not-are_same : goal.returns-then-not-are_same
+returns-then-not-are_same c e =
     let s = state_of c.args.a.now in
     let t = state_of c.args.b.now in
     let i = c.loop-slot.slot in
-    c.if-not-are-same.ensures
+    c.if-not-are_same.ensures
     (c.bits.ensures ∙ slot_bits s i _ c.history.ensures
     ∙ ap (λ l. get_or l i None) e
     ∙ sym (c.bits-in-loop-slot.ensures ∙ slot_bits t i _ c.history-in-loop-slot.ensures))

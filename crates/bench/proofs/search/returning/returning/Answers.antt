@@ -9,7 +9,7 @@ use Rattle.promise.proofs.Search.{Hunting, at_fails, hunt_first}
 use Rattle.bench.proofs.Searching.{walk_room, round_found, round_on, round_anew}
 use Rattle.bench.proofs.search.returning.returning.Given as given
 use Rattle.bench.proofs.search.returning.returning.Goals as goal
-use Rattle.bench.proofs.search.returning.returning.Goals.{In-ok-walk, Then-length-at, Else-length-at}
+use Rattle.bench.proofs.search.returning.returning.Goals.{In_ok-walk, Then-length-at, Else-length-at}
 
 pub loop-length-init : goal.loop-length-init
 loop-length-init g c =
@@ -22,26 +22,26 @@ walk-requires g c =
     let hunt = c.loop-length.invariant in
     walk_room _ (state_of m) (held_sound (state_of m) m.sound) c.args.period c.requires (c.loop-length.at + c.loop-length.length) _ hunt.there (omega arith)
 
-pub returns-in-err-walk : goal.returns-in-err-walk
-returns-in-err-walk g c =
+pub returns-in_err-walk : goal.returns-in_err-walk
+returns-in_err-walk g c =
     let m = c.args.first in
-    let p = err_from_is_err_and c.from-residual.result c.from-residual.ensures.1 in
-    let there = at_fails _ (state_of m) (held_sound (state_of m) m.sound) c.requires.on _ _ _ c.loop-length.invariant.there c.in-err-walk.ensures in
+    let p = err_from_is_err_and c.from_residual.result c.from_residual.ensures.1 in
+    let there = at_fails _ (state_of m) (held_sound (state_of m) m.sound) c.requires.on _ _ _ c.loop-length.invariant.there c.in_err-walk.ensures in
     rw (p.1, p.2) there
 
-pub overflow-add-length : goal.overflow-add-length
-overflow-add-length g c = omega (arith, c.loop-length.invariant.short, c.requires.few)
+pub overflow_add-length : goal.overflow_add-length
+overflow_add-length g c = omega (arith, c.loop-length.invariant.short, c.requires.few)
 
 pub returns-then-agree : goal.returns-then-agree
 returns-then-agree g c =
     let m = c.args.first in (
       round_found _ (state_of m) (held_sound (state_of m) m.sound) c.args.period c.requires _ _ _ _ _ c.loop-length.invariant
-          c.in-ok-walk.ensures c.if-agree.ensures,
+          c.in_ok-walk.ensures c.if-agree.ensures,
       omega (arith, c.loop-length.invariant.short),
     )
 
-pub overflow-add-at : goal.overflow-add-at
-overflow-add-at g c = omega (arith, c.loop-length.invariant.short, c.requires.few)
+pub overflow_add-at : goal.overflow_add-at
+overflow_add-at g c = omega (arith, c.loop-length.invariant.short, c.requires.few)
 
 pub loop-length-smaller-then-length-at : goal.loop-length-smaller-then-length-at
 loop-length-smaller-then-length-at g c = omega (arith, c.loop-length.invariant.short)
@@ -50,7 +50,7 @@ pub loop-length-preserved-then-length-at : goal.loop-length-preserved-then-lengt
 loop-length-preserved-then-length-at g c =
     let m = c.args.first in
     round_anew _ (state_of m) (held_sound (state_of m) m.sound) c.args.period c.requires _ _ _ _ _ c.loop-length.invariant
-    c.in-ok-walk.ensures c.if-agree.ensures c.if-length-at.true
+    c.in_ok-walk.ensures c.if-agree.ensures c.if-length-at.true
 
 pub loop-length-smaller : goal.loop-length-smaller
 loop-length-smaller g c = omega (arith, c.loop-length.invariant.short)
@@ -59,4 +59,4 @@ pub loop-length-preserved : goal.loop-length-preserved
 loop-length-preserved g c =
     let m = c.args.first in
     round_on _ (state_of m) (held_sound (state_of m) m.sound) c.args.period c.requires _ _ _ _ _ c.loop-length.invariant
-    c.in-ok-walk.ensures c.if-agree.ensures c.if-length-at.false
+    c.in_ok-walk.ensures c.if-agree.ensures c.if-length-at.false

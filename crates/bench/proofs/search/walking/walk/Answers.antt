@@ -7,14 +7,14 @@ use Rattle.bench.proofs.search.walking.walk.Goals as goal
 pub loop-init : goal.loop-init
 loop-init g c = walk_none _ _
 
-pub quiet-unit-requires : goal.quiet-unit-requires
-quiet-unit-requires g c =
+pub quiet_unit-requires : goal.quiet_unit-requires
+quiet_unit-requires g c =
     omega (arith, walk_now _ _ c.loop.counter (state_of c.loop.machine) c.loop.invariant)
 
 pub loop-preserved : goal.loop-preserved
 loop-preserved g c =
-    subst (Walked _ _ _) (sym c.in-default.ensures.state)
-    (walk_on _ _ c.loop.counter (state_of c.loop.machine) c.loop.invariant (sym c.in-default.ensures.first))
+    subst (Walked _ _ _) (sym c.in_default.ensures.state)
+    (walk_on _ _ c.loop.counter (state_of c.loop.machine) c.loop.invariant (sym c.in_default.ensures.first))
 
 pub returns-in-Some : goal.returns-in-Some
 returns-in-Some g c =
