@@ -12,4 +12,4 @@ invariant_of-self g c =
     let units = replicate c.args.units false in
     let room : (state_in b).now + length units ≤ last_instant = omega (arith, length-replicate c.args.units false) in
     let e = c.quiet_units.ensures.state in
-    (early_run before (state_in b) _ units room e, (kept_run before _ (state_in b) _ units b.machine.sound e b.same, tt))
+    record { early = early_run before (state_in b) _ units room e; same = kept_run before _ (state_in b) _ units b.machine.sound e b.same }

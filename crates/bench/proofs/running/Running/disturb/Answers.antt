@@ -13,7 +13,10 @@ invariant_of-self g c =
     let before = g.R.Rule.before b.rule in
     let early : (state_in b).now < last_instant = omega arith in
     let e : state_of c.unit.new.self ≡ run before (state_in b) (replicate 1 true) = c.unit.ensures.state ∙ once_run before (state_in b) early in
-    (early_run before (state_in b) _ (replicate 1 true) (omega arith) e, (kept_run before _ (state_in b) _ (replicate 1 true) b.machine.sound e b.same, tt))
+    record {
+      early = early_run before (state_in b) _ (replicate 1 true) (omega arith) e;
+      same = kept_run before _ (state_in b) _ (replicate 1 true) b.machine.sound e b.same;
+    }
 
 pub returns : goal.returns
 returns g c =
