@@ -1,5 +1,6 @@
 -- What a call stands for, and a bench that is laid or running. Assumes nothing.
 use Rattle.bench.specs.Stands.{table_in, table_under, state_in}
+use Rattle.bus.specs.declared.rule.Rule.{Ghosts}
 use Rattle.model.specs.Bench as model
 use Rattle.model.specs.Bench.Plain.{laid, running}
 use Rattle.model.specs.Bench.Call.{fit, pull, prime, load, start, advance, disturb, stop}
@@ -19,11 +20,11 @@ call_of Disturb = disturb
 call_of Stop = stop
 
 -- the plain bench that a bench stands for
-abbrev pub stands : {R : Type 0} → Bench R → model.Plain
+abbrev pub stands : {R : Type 0} {g : Ghosts R} → Bench R g → model.Plain
 stands (Laid b) = laid (table_in b)
 stands (Running b) = running (table_under b) (state_in b)
 
 -- the rule that it was made over
-abbrev pub rule_in : {R : Type 0} → Bench R → R
+abbrev pub rule_in : {R : Type 0} {g : Ghosts R} → Bench R g → R
 rule_in (Laid b) = b.rule
 rule_in (Running b) = b.rule

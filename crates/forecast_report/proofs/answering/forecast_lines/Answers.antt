@@ -8,21 +8,21 @@ use Rattle.forecast_report.proofs.answering.forecast_lines.Goals as goal
 
 pub unreachable-requires : goal.unreachable-requires
 unreachable-requires g c =
-    figures_there _ _ c.args.bench.now.machine.sound _ _ c.forecast-with-figures.ensures.forecast c.forecast-with-figures.ensures.figures _ _
+    figures_there _ _ c.args.bench.now.machine.sound _ _ c.forecast_with_figures.ensures.forecast c.forecast_with_figures.ensures.figures _ _
     (ap answer_of c.in-Holds-None.is-0) (ap (option_map figures_of) c.in-Holds-None.is-1)
 
 pub returns-in-Holds-Some : goal.returns-in-Holds-Some
 returns-in-Holds-Some g c =
-    IfOk-weaker c.holding-lines.result _ _
+    IfOk-weaker c.holding_lines.result _ _
     (λ s.
-    told_holds _ _ c.args.bench.now.machine.sound _ _ c.forecast-with-figures.ensures.forecast c.forecast-with-figures.ensures.figures _ _ _
+    told_holds _ _ c.args.bench.now.machine.sound _ _ c.forecast_with_figures.ensures.forecast c.forecast_with_figures.ensures.figures _ _ _
     (ap answer_of c.in-Holds-Some.is-0) (ap (option_map figures_of) c.in-Holds-Some.is-1) (string_bytes s))
-    c.holding-lines.ensures
+    c.holding_lines.ensures
 
 pub returns-in-Fails-default : goal.returns-in-Fails-default
 returns-in-Fails-default g c =
-    IfOk-weaker c.failing-line.result _ _
+    IfOk-weaker c.failing_line.result _ _
     (λ s.
-    told_fails _ _ c.args.bench.now.machine.sound _ _ c.forecast-with-figures.ensures.forecast c.forecast-with-figures.ensures.figures _
+    told_fails _ _ c.args.bench.now.machine.sound _ _ c.forecast_with_figures.ensures.forecast c.forecast_with_figures.ensures.figures _
     (ap answer_of c.in-Fails-default.is-0) (string_bytes s))
-    c.failing-line.ensures
+    c.failing_line.ensures

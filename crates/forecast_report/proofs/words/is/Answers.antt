@@ -10,4 +10,4 @@ tested xs ys r h = search (rules, bytes_eq-Decides)
 pub returns : goal.returns
 returns c =
     tested c.args.word.now c.args.text.now c.eq.result
-    (subst (λ l. Decides c.eq.result (c.args.word.now ≡ l)) c.as-bytes.ensures.value (slice_eq-Decides Decides-eqb _ _ _ c.eq.ensures))
+    (subst (λ l. Decides c.eq.result (c.args.word.now ≡ l)) c.as_bytes.ensures.value (slice_eq-Decides Decides-eqb _ _ _ c.eq.ensures))

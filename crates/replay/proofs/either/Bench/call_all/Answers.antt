@@ -5,16 +5,16 @@ use Rattle.replay.proofs.either.Bench.call_all.Goals as goal
 pub loop-call-preserved : goal.loop-call-preserved
 loop-call-preserved g c = (
   left_more _ _ _ _ c.loop-call.call-index _ _ _ _ c.loop-call-test.true c.loop-call.invariant.0 (ap g.R.Rule.before c.loop-call.invariant.1)
-      c.in-ok-bench.ensures.bench,
-  c.in-ok-bench.ensures.rule ∙ c.loop-call.invariant.1,
+      c.in_ok-bench.ensures.bench,
+  c.in_ok-bench.ensures.rule ∙ c.loop-call.invariant.1,
 )
 
-pub returns-in-err-bench : goal.returns-in-err-bench
-returns-in-err-bench g c =
-    rw c.from-residual.ensures
+pub returns-in_err-bench : goal.returns-in_err-bench
+returns-in_err-bench g c =
+    rw c.from_residual.ensures
     (record {
       bench = left_none _ _ _ _ _ (left_more _ _ _ _ c.loop-call.call-index _ _ _ _ c.loop-call-test.true c.loop-call.invariant.0 (ap g.R.Rule.before c.loop-call.invariant.1)
-          c.in-err-bench.ensures.bench);
+          c.in_err-bench.ensures.bench);
       rule = tt;
     })
 
