@@ -1,9 +1,8 @@
 -- Quiet units, one after the other: where they lead, what they tell, and that the counts stay small. Assumes nothing.
-use Rattle.std.proofs.Common.{◌≡◌, ℕ, suc, ◌+◌, ◌*◌, ◌<◌, ◌≤◌, Bool, true, false, cond, not, ltb, List, [], ◌∷◌, ◌++◌, length, replicate, Ok, Err, refl, ap, ◌∙◌, subst, append-nil, add-one, arith}
+use Rattle.std.proofs.Common.{◌≡◌, ℕ, suc, ◌+◌, ◌*◌, ◌<◌, ◌≤◌, Bool, true, false, not, ltb, List, [], ◌∷◌, ◌++◌, length, replicate, Ok, Err, refl, ap, ◌∙◌, subst, append-nil, add-one, arith}
 use Rattle.std.proofs.lemmas.Bool.Decides.{nat_tests}
 use Rattle.refusal.specs.Tests.{on_ok, kept}
 use Rattle.refusal.specs.declared.Refusal.{Refusal}
-use Rattle.refusal.specs.declared.Refusal.TheVariants.{InstantLimit}
 use Rattle.model.specs.Bench.{last_instant, disturbed, state_after, tally_after}
 use Rattle.model.specs.Machine.{State, Outcome, unit, outcomes}
 use Rattle.model.specs.Ready.{Ready}

@@ -1,21 +1,17 @@
 -- The figures of a forecast that holds, measured from its first boundary of the two. Assumes nothing.
-use Rattle.std.proofs.Common.{◌≡◌, ℕ, ◌+◌, ◌-◌, ◌*◌, ◌%◌, ◌<◌, ◌≤◌, Bool, Some, None, Option, sym, ap, ◌∙◌, subst, le_refl, add-mul, mul-le-mul, one-mul, arith}
+use Rattle.std.proofs.Common.{◌≡◌, ℕ, ◌+◌, ◌-◌, ◌*◌, ◌%◌, ◌<◌, ◌≤◌, Bool, Some, None, Option, ap, ◌∙◌, le_refl, add-mul, mul-le-mul, one-mul, arith}
 use Rattle.model.specs.Bench.{last_instant}
-use Rattle.model.specs.Figures.{Figures, Measures, figures, figures_over}
-use Rattle.model.specs.Forecast.{table_of, period_of, units_to, Answer, Tells, Holds, Fails}
+use Rattle.model.specs.Figures.{Figures, Measures, figures}
+use Rattle.model.specs.Forecast.{table_of, period_of, units_to, Holds, Fails}
 use Rattle.model.specs.Forecast.Answer.{holds, fails}
 use Rattle.model.specs.Machine.{State}
 use Rattle.model.specs.Ready.{Ready}
 use Rattle.model.specs.Tables.{Table, hyper_period, histories}
 use Rattle.model.specs.Tally.{Failure}
 use Rattle.laws.specs.Sound.{Sound}
-use Rattle.promise.specs.Answers.{Walked}
 use Rattle.promise.proofs.Boundaries.{units_are, period_positive}
 use Rattle.promise.proofs.Single.{one_answer}
-use Rattle.promise.proofs.Walks.{walk_now}
-use Rattle.bench.specs.Searches.{machine_limit}
 use Rattle.bench.proofs.Foretelling.{period_is, count_is, less, units_are_first}
-use Rattle.bench.proofs.Stretches.{figures_between}
 
 module _ (before : Ready → Ready → Bool) (s : State) (h : Sound s) where
   -- the figures of the only answer

@@ -1,5 +1,5 @@
 -- What a running bench keeps: the streams of its table, whatever units are worked. Assumes nothing.
-use Rattle.std.proofs.Common.{◌≡◌, ◌+◌, ◌≤◌, Bool, List, length, sym, ap, ◌∙◌, subst, arith}
+use Rattle.std.proofs.Common.{◌≡◌, ◌+◌, ◌≤◌, Bool, List, length, ap, ◌∙◌, arith}
 use mathlib.Core.Logic.{∥∥₁_map}
 use Rattle.model.specs.Bench.{last_instant}
 use Rattle.model.specs.Forecast.{table_of}

@@ -1,13 +1,13 @@
 -- The two searches over a machine that stands at a boundary: that they do not come to its last instant, and what their turns give.
 -- Assumes nothing.
-use Rattle.std.proofs.Common.{◌≡◌, ℕ, ◌+◌, ◌*◌, ◌<◌, ◌≤◌, Bool, true, sym, ap, ◌∙◌, subst, add-mul, mul-le-mul, one-mul, arith}
+use Rattle.std.proofs.Common.{◌≡◌, ℕ, ◌+◌, ◌*◌, ◌<◌, ◌≤◌, Bool, sym, ap, ◌∙◌, subst, add-mul, mul-le-mul, one-mul, arith}
 use Rattle.model.specs.Ready.{Ready}
 use Rattle.model.specs.Machine.{State}
 use Rattle.model.specs.Tables.{histories}
 use Rattle.model.specs.Forecast.{table_of, histories_of, period_of, at_boundary, Holds}
 use Rattle.laws.specs.Sound.{Sound}
 use Rattle.promise.specs.Answers.{Walked, Returns}
-use Rattle.promise.proofs.Search.{At, Hunting, Closing, boundary_now, at_first, at_later, at_next, at_histories, hunt_first, hunt_found, hunt_on, hunt_anew, close_first, close_found, close_on}
+use Rattle.promise.proofs.Search.{At, Hunting, Closing, boundary_now, at_first, at_later, at_next, at_histories, hunt_found, hunt_on, hunt_anew, close_first, close_found, close_on}
 use Rattle.promise.proofs.Found.{found_holds}
 use Rattle.bench.specs.Searches.{Searchable, machine_limit}
 

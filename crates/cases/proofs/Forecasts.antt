@@ -1,6 +1,6 @@
 -- A forecast of a started table from what its first units give: the failure of a run of them, or two boundaries next to each other
 -- that agree. Assumes nothing.
-use Rattle.std.proofs.Common.{◌≡◌, ℕ, zero, suc, ◌+◌, ◌*◌, ◌<◌, ◌≤◌, Bool, true, false, cond, ◌&&◌, List, [], ◌∷◌, length, get_or, replicate, Some, None, Option, sym, refl, ap, ◌∙◌, subst, arith}
+use Rattle.std.proofs.Common.{◌≡◌, ℕ, zero, suc, ◌+◌, ◌<◌, Bool, [], ◌∷◌, length, get_or, Some, None, sym, subst, arith}
 use Rattle.model.specs.Streams.{Stream}
 use Rattle.model.specs.Tables.{Table, Every}
 use Rattle.model.specs.Ready.{Ready}
@@ -8,10 +8,9 @@ use Rattle.model.specs.Machine.{State}
 use Rattle.model.specs.Schedule.{started, ran}
 use Rattle.model.specs.Tally.{Failure, first_failure}
 use Rattle.model.specs.Forecast.{units_to, at_boundary, Holds, Fails}
-use Rattle.laws.specs.Sound.{LawfulStream, LawfulTable, Sound}
+use Rattle.laws.specs.Sound.{LawfulStream, Sound}
 use Rattle.laws.proofs.Running.{table_sound}
 use Rattle.promise.specs.Boundaries.{Unfailing}
-use Rattle.promise.specs.Answers.{Returns, Begins}
 use Rattle.promise.proofs.Firsts.{first_picked}
 use Rattle.promise.proofs.Found.{found_holds}
 use Rattle.promise.proofs.Runs.{quiet, ran_fails, ran_unfailing}

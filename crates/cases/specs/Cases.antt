@@ -1,5 +1,5 @@
 -- Worked examples as one list, each stated by the definition that it is an example of. Assumes nothing.
-use Rattle.std.specs.Prelude.{◌≡◌, ℕ, Bool, List, [], ◌∷◌, ◌++◌, replicate, Some, None}
+use Rattle.std.specs.Prelude.{◌≡◌, ℕ, Bool, List, [], ◌∷◌, replicate, Some, None}
 use Rattle.binomial.specs.Choose.{at_least}
 use Rattle.firm.specs.Histories.{distance, restoring}
 use Rattle.model.specs.Streams.{Stream}

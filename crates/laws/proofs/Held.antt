@@ -1,11 +1,11 @@
 -- A state that is known to be sound in the way that the type of a machine knows it is sound: nothing of it is lost. Assumes nothing.
-use Rattle.std.proofs.Common.{◌≡◌, ℕ, ◌≤◌, length, get_or, Some, None, Option, refl, arith}
+use Rattle.std.proofs.Common.{◌≡◌, ℕ, ◌≤◌, length, Some, None, Option, refl, arith}
 use mathlib.Core.HLevel.{⊥_prop}
 use mathlib.Core.Logic.{∥∥₁_elim}
 use native.Mathlib.Nat.{ℕ_set}
 use native.Mathlib.Bridge.{le_prop}
 use Rattle.model.specs.Machine.{Row, Transit, State}
-use Rattle.laws.specs.Sound.{LawfulStream, Released, SoundRow, SoundTransit, Sound, row_at}
+use Rattle.laws.specs.Sound.{SoundRow, Sound, row_at}
 
 module _ (s : State) (held : ∥ Sound s ∥₁) where
   -- an order between two numbers that follows from soundness

@@ -1,11 +1,10 @@
 -- The laws of the least common multiple: it is positive, both numbers divide it, and it divides every number that both divide.
 -- Assumes nothing.
-use Rattle.std.proofs.Common.{◌≡◌, ℕ, zero, suc, ◌+◌, ◌-◌, ◌*◌, ◌/◌, ◌%◌, ◌<◌, ◌≤◌, Bool, true, false, eqb, sym, ap, ◌∙◌, subst, inl, inr, mod-lt, mul-le-mul_left, arith}
+use Rattle.std.proofs.Common.{◌≡◌, ℕ, ◌+◌, ◌-◌, ◌*◌, ◌/◌, ◌%◌, ◌<◌, ◌≤◌, Bool, eqb, sym, ap, ◌∙◌, subst, inl, inr, mod-lt, mul-le-mul_left, arith}
 use native.Mathlib.Nat.{mul-mod_left, mul-mod_right, dvd_antisymm, dvd_of_mod-eq-zero, mod-eq-zero_of_dvd, mul-div_cancel', mod-mod_of_dvd, mod-one, mod_self, le_of_dvd, dvd_trans, dvd-sub}
 use lib.Arith.{lt_of_le-ne}
-use Rattle.std.proofs.lemmas.Bool.{eqb-true, eq-eqb, cases_lt, cond_both, both_ways}
+use Rattle.std.proofs.lemmas.Bool.{eqb-true, eq-eqb, cases_lt}
 use Rattle.std.proofs.lemmas.Nat.{le-div}
-use Rattle.firm.specs.Searches.{first_from}
 use Rattle.firm.proofs.Searching.{first_above, first_at_most, first_holds}
 use Rattle.model.specs.Tables.{Divides, lcm}
 

@@ -8,7 +8,7 @@ use Rattle.model.specs.Streams.{Stream, stream}
 use Rattle.model.specs.Tables.{Table, empty, placed}
 use Rattle.model.specs.Layout.{judged}
 use Rattle.model.specs.Ready.{Ready}
-use Rattle.model.specs.Machine.{State, Outcome}
+use Rattle.model.specs.Machine.{State}
 use Rattle.model.specs.Schedule.{started, run, ran}
 use Rattle.model.specs.Tally.{Tally, tally}
 

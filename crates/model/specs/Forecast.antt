@@ -5,10 +5,10 @@ use Rattle.std.specs.Option.{option_map}
 use Rattle.std.specs.List.{AllByRecursion as All, slice_get}
 use Rattle.model.specs.Tables.{Table, hyper_period, histories}
 use Rattle.model.specs.Ready.{Ready}
-use Rattle.model.specs.Machine.{Row, State, Outcome}
+use Rattle.model.specs.Machine.{State, Outcome}
 use Rattle.model.specs.Schedule.{after, given}
 use Rattle.model.specs.Tally.{Failure}
-use Rattle.model.specs.Bench.{Call, Plain, plain}
+use Rattle.model.specs.Bench.{Call, plain}
 use Rattle.model.specs.Bench.Plain.{running}
 
 -- the table of a state: the streams of its rows

@@ -1,6 +1,6 @@
 -- The table file: a slot map of one byte, bit i for slot i, then one record for each bit that stands, lowest slot first.
 -- `judged` is the table that a file spells, or its first fault in the order of the tests. Assumes nothing.
-use Rattle.std.specs.Prelude.{ℕ, zero, suc, ◌+◌, Bool, true, false, cond, not, List, [], ◌∷◌, length, take, drop, is_some, Some, None, Ok, Err, Option, Result, ◌==◌, nat_le, nat_lt, slice_index}
+use Rattle.std.specs.Prelude.{ℕ, zero, suc, ◌+◌, Bool, false, cond, not, List, length, take, drop, is_some, Some, None, Ok, Err, Option, Result, ◌==◌, nat_le, nat_lt, slice_index}
 use Rattle.std.specs.Option.{unwrap_or}
 use Rattle.refusal.specs.Tests.{and_then}
 use Rattle.refusal.specs.declared.Fault.{Fault}

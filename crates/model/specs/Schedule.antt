@@ -1,5 +1,5 @@
 -- Whole runs: a started table, units quiet and noisy, and the quiet schedule. Assumes nothing.
-use Rattle.std.specs.Prelude.{◌≡◌, ℕ, zero, suc, Bool, true, false, List, [], ◌∷◌, ◌++◌, map, None}
+use Rattle.std.specs.Prelude.{ℕ, zero, suc, Bool, false, List, [], ◌∷◌, ◌++◌, map, None}
 use Rattle.std.specs.Option.{option_map}
 use Rattle.model.specs.Streams.{Stream}
 use Rattle.model.specs.Tables.{Table}

@@ -1,5 +1,5 @@
 -- A table of eight slots, each empty or with a stream; its hyper-period P and its number N of passing histories. Assumes nothing.
-use Rattle.std.specs.Prelude.{◌≡◌, ℕ, zero, suc, ◌*◌, ◌%◌, ◌<◌, ◌≤◌, Bool, cond, List, [], ◌∷◌, replicate, is_some, Some, None, Ok, Err, Option, Result, nat_eq, nat_lt, slice_index_or, slice_set}
+use Rattle.std.specs.Prelude.{◌≡◌, ℕ, ◌*◌, ◌%◌, ◌<◌, ◌≤◌, cond, List, [], ◌∷◌, replicate, is_some, Some, None, Ok, Err, Option, Result, nat_eq, nat_lt, slice_index_or, slice_set}
 use Rattle.refusal.specs.declared.Refusal.{Refusal}
 use Rattle.refusal.specs.declared.Refusal.TheVariants.{SlotRange, SlotTaken, HyperPeriodLimit, HistoryLimit}
 use Rattle.binomial.specs.Choose.{at_least}

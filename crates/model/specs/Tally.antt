@@ -1,5 +1,5 @@
 -- What a run tells of its outcomes: how many were met and missed, how many were dynamic failures, and the first of these. Assumes nothing.
-use Rattle.std.specs.Prelude.{◌≡◌, ℕ, ◌+◌, Bool, true, false, cond, not, List, [], ◌∷◌, Some, None, Option, nat_lt}
+use Rattle.std.specs.Prelude.{ℕ, ◌+◌, Bool, true, false, cond, not, List, [], ◌∷◌, Some, None, Option, nat_lt}
 use Rattle.model.specs.Machine.{Outcome}
 
 -- a dynamic failure: stream, frame and instant

@@ -1,7 +1,7 @@
 -- Two searches over the boundaries of the quiet schedule from an idle instant: what they keep from turn to turn, and what they find.
 -- The first keeps the histories of one boundary and walks on from it, twice as far each time, until they stand again. The second walks
 -- from two boundaries as far apart as that, until their histories agree. Assumes nothing.
-use Rattle.std.proofs.Common.{◌≡◌, ℕ, zero, suc, ◌+◌, ◌-◌, ◌*◌, ◌%◌, ◌<◌, ◌≤◌, Bool, sym, refl, ap, ◌∙◌, subst, inl, inr, add_assoc, add-mul, mul-le-mul, one-mul, arith}
+use Rattle.std.proofs.Common.{◌≡◌, ℕ, ◌+◌, ◌-◌, ◌*◌, ◌%◌, ◌<◌, ◌≤◌, Bool, sym, ap, ◌∙◌, subst, inl, inr, add-mul, one-mul, arith}
 use native.Mathlib.Nat.{mod_self}
 use Rattle.std.proofs.lemmas.Bool.{cases_lt, cases_eq}
 use Rattle.binomial.proofs.Sums.{at_least_positive}
@@ -16,10 +16,10 @@ use Rattle.laws.specs.Sound.{Sound, LawfulStream}
 use Rattle.rounds.proofs.Returns.{after_more}
 use Rattle.promise.specs.Boundaries.{Unfailing, boundary, AgainWithin}
 use Rattle.promise.specs.Answers.{Walked, Returns, Begins}
-use Rattle.promise.proofs.Boundaries.{every_from_rows, units_are, units_next}
+use Rattle.promise.proofs.Boundaries.{every_from_rows, units_are}
 use Rattle.promise.proofs.Passing.{units_rise}
 use Rattle.promise.proofs.Schedules.{after_now}
-use Rattle.promise.proofs.Further.{boundary_next, unfailing_more, unfailing_next, fails_later}
+use Rattle.promise.proofs.Further.{unfailing_more, fails_later}
 use Rattle.promise.proofs.Found.{returns_within}
 
 -- a sound state has a history that passes for each stream

@@ -1,12 +1,12 @@
 -- Quiet units one after the other, up to the first that fails. Assumes nothing.
-use Rattle.std.proofs.Common.{◌≡◌, ℕ, suc, ◌+◌, ◌<◌, Bool, false, Some, None, sym, refl, ap, ◌∙◌, subst, inl, inr, add-one, arith}
+use Rattle.std.proofs.Common.{◌≡◌, ℕ, ◌+◌, Bool, false, Some, None, sym, refl, ap, ◌∙◌, subst, inl, inr, add-one, arith}
 use Rattle.std.proofs.lemmas.Bool.{cases_eq}
 use Rattle.model.specs.Ready.{Ready}
-use Rattle.model.specs.Machine.{State, Outcome, unit, outcomes}
+use Rattle.model.specs.Machine.{State, unit, outcomes}
 use Rattle.model.specs.Schedule.{after, given}
 use Rattle.model.specs.Tally.{Failure, first_failure}
 use Rattle.model.specs.Forecast.{Fails}
-use Rattle.promise.specs.Boundaries.{NoneFails, Unfailing}
+use Rattle.promise.specs.Boundaries.{NoneFails}
 use Rattle.promise.specs.Answers.{FirstOf, Walked}
 use Rattle.promise.proofs.Firsts.{first_picked, none_picked}
 use Rattle.promise.proofs.Runs.{first_fails}

@@ -1,5 +1,5 @@
 -- One record through the three layers, and slot after slot. Assumes nothing.
-use Rattle.std.proofs.Common.{◌≡◌, ℕ, suc, ◌+◌, ◌<◌, ◌≤◌, Bool, true, false, cond, not, eqb, ltb, List, length, get_or, is_some, Some, None, Ok, Err, Result, unwrap_or, sym, refl, ap, ◌∙◌, add-one, arith, le-ltb, lt-ltb, eq-eqb, ne_eqb}
+use Rattle.std.proofs.Common.{◌≡◌, ℕ, suc, ◌+◌, ◌<◌, ◌≤◌, true, false, cond, not, eqb, ltb, List, length, get_or, is_some, Some, None, Ok, Err, Result, unwrap_or, sym, refl, ap, ◌∙◌, add-one, arith, le-ltb, lt-ltb, eq-eqb, ne_eqb}
 use native.Mathlib.Decide.{le_ind}
 use Rattle.refusal.specs.Tests.{and_then, on_ok}
 use Rattle.refusal.specs.declared.Fault.{Fault}

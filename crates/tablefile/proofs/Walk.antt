@@ -1,8 +1,7 @@
 -- A walk over the fields of a record: where the bytes that are left begin. Assumes nothing.
-use Rattle.std.proofs.Common.{◌≡◌, ℕ, zero, suc, ◌+◌, ◌-◌, ◌*◌, ◌<◌, ◌≤◌, Bool, true, false, cond, List, length, get_or, drop, sym, refl, ap, ◌∙◌, subst, ap₂, le_refl, arith, length-drop, drop-drop}
+use Rattle.std.proofs.Common.{◌≡◌, ℕ, suc, ◌+◌, ◌<◌, ◌≤◌, Bool, true, cond, List, length, get_or, drop, sym, ap, ◌∙◌, ap₂, le_refl, arith, length-drop, drop-drop}
 use native.Mathlib.Decide.{le_ind}
 use Rattle.model.specs.Fields.{stands, size, start, extent, number, value}
-use Rattle.tablefile.proofs.Parts.{behind}
 
 -- bs begins at field i of the record r
 abbrev pub At : List ℕ → ℕ → List ℕ → Type 0

@@ -1,9 +1,9 @@
 -- A window above 16 is refused, whatever the history. Assumes nothing.
-use Rattle.std.proofs.Common.{◌≡◌, ℕ, ◌<◌, true, false, cond, ltb, Ok, Err, Result, sym, refl, ap, ◌∙◌, ⊎_elim, arith, lt-ltb}
+use Rattle.std.proofs.Common.{◌≡◌, ℕ, ◌<◌, true, false, cond, ltb, refl, ap, ◌∙◌, ⊎_elim, arith, lt-ltb}
 use Rattle.std.proofs.str.Laws.{order}
-use Rattle.refusal.specs.Tests.{outside, on_ok}
-use Rattle.firm.specs.Histories.{Firm, firm}
-use Rattle.model.specs.Streams.{Stream, stream}
+use Rattle.refusal.specs.Tests.{outside}
+use Rattle.firm.specs.Histories.{firm}
+use Rattle.model.specs.Streams.{stream}
 
 pub outside_above : (low high n : ℕ) → high < n → outside low high n ≡ true
 outside_above low high n h = either (ltb n low)

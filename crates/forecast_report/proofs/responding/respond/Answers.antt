@@ -1,4 +1,4 @@
-use Rattle.std.proofs.Common.{◌≡◌, IfOk, string_bytes, subst}
+use Rattle.std.proofs.Common.{IfOk, string_bytes, subst}
 use Rattle.std.proofs.lemmas.Result.{IfOk-weaker}
 use Rattle.forecast_report.specs.Answers.{Answered, Prints}
 use Rattle.forecast_report.proofs.Asked.{forecasts}

@@ -1,4 +1,3 @@
-use Rattle.std.proofs.Common.{◌≡◌}
 use Rattle.tablefile.proofs.Parts.{behind}
 use Rattle.tablefile.proofs.fields.one_byte.Goals as goal
 

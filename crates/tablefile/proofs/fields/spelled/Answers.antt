@@ -1,5 +1,5 @@
-use Rattle.std.proofs.Common.{◌≡◌, ℕ, ◌-◌, ◌^◌, ◌<◌, ◌≤◌, List, length, get_or, take, drop, refl, ap, ◌∙◌, arith, rules}
-use Rattle.model.specs.Fields.{start, value, extent, window}
+use Rattle.std.proofs.Common.{◌≡◌, ℕ, ◌-◌, ◌^◌, ◌≤◌, List, length, get_or, take, drop, refl, ap, ◌∙◌, arith, rules}
+use Rattle.model.specs.Fields.{start, value, extent}
 use Rattle.tablefile.proofs.Parts.{behind}
 use Rattle.tablefile.proofs.Walk.{At, onward, room, reads}
 use Rattle.tablefile.proofs.fields.spelled.Goals as goal

@@ -1,6 +1,5 @@
-use Rattle.std.proofs.Common.{◌≡◌, ◌<◌, ◌≤◌, length, None, Ok, Err, sym, refl, ap, ◌∙◌, arith, rules}
+use Rattle.std.proofs.Common.{◌≡◌, ◌<◌, length, None, Ok, Err, sym, refl, ap, ◌∙◌, rules}
 use Rattle.std.proofs.lemmas.Result.{err_from_is_err_and}
-use Rattle.model.specs.Layout.{Progress}
 use Rattle.tablefile.proofs.Spelled.{exact}
 use Rattle.tablefile.proofs.Steps.{slots_none, judged_none, judged_fault, judged_more, judged_whole}
 use Rattle.tablefile.proofs.reading.read.Goals as goal

@@ -1,4 +1,4 @@
-use Rattle.std.proofs.Common.{◌≡◌, ◌+◌, ◌-◌, ◌*◌, ◌%◌, Some, ap, ◌∙◌, arith}
+use Rattle.std.proofs.Common.{◌≡◌, ◌-◌, ◌%◌, Some, ap, ◌∙◌, arith}
 use Rattle.laws.proofs.Held.{held_sound}
 use Rattle.model.specs.Forecast.{units_to}
 use Rattle.model.specs.Tables.{hyper_period}

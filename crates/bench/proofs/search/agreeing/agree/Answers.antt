@@ -1,4 +1,4 @@
-use Rattle.std.proofs.Common.{length, get_or, None, sym, ap, ◌∙◌}
+use Rattle.std.proofs.Common.{get_or, None, sym, ap, ◌∙◌}
 use Rattle.std.proofs.lemmas.List.{length-map}
 use Rattle.bus.specs.Machines.{state_of}
 use Rattle.bench.proofs.Agreeing.{slot_bits, agreed_more, agreed_all}

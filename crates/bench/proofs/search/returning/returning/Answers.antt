@@ -1,13 +1,9 @@
-use Rattle.std.proofs.Common.{◌≡◌, ◌+◌, ◌*◌, ◌<◌, ◌≤◌, true, arith}
+use Rattle.std.proofs.Common.{◌+◌, arith}
 use Rattle.std.proofs.lemmas.Result.{err_from_is_err_and}
-use Rattle.model.specs.Forecast.{table_of}
-use Rattle.model.specs.Tables.{histories}
-use Rattle.laws.specs.Sound.{Sound}
 use Rattle.laws.proofs.Held.{held_sound}
 use Rattle.bus.specs.Machines.{state_of}
-use Rattle.promise.proofs.Search.{Hunting, at_fails, hunt_first}
+use Rattle.promise.proofs.Search.{at_fails, hunt_first}
 use Rattle.bench.proofs.Searching.{walk_room, round_found, round_on, round_anew}
-use Rattle.bench.proofs.search.returning.returning.Given as given
 use Rattle.bench.proofs.search.returning.returning.Goals as goal
 use Rattle.bench.proofs.search.returning.returning.Goals.{In_ok-walk, Then-length-at, Else-length-at}
 

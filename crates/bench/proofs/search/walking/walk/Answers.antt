@@ -1,4 +1,4 @@
-use Rattle.std.proofs.Common.{◌≡◌, ◌<◌, sym, ◌∙◌, subst, arith}
+use Rattle.std.proofs.Common.{◌≡◌, sym, subst, arith}
 use Rattle.bus.specs.Machines.{state_of}
 use Rattle.promise.specs.Answers.{Walked}
 use Rattle.promise.proofs.Walks.{walk_none, walk_now, walk_on, walk_fails}

@@ -1,4 +1,4 @@
-use Rattle.std.proofs.Common.{true, sym, ◌∙◌}
+use Rattle.std.proofs.Common.{sym, ◌∙◌}
 use Rattle.std.proofs.lemmas.Bool.{cond-true, cond-false}
 use Rattle.bus.proofs.Busy.{busy_standing}
 use Rattle.bus.proofs.machine.Machine.is_busy_next.Goals as goal

@@ -1,4 +1,4 @@
-use Rattle.std.proofs.Common.{◌≡◌, ap, ◌∙◌}
+use Rattle.std.proofs.Common.{ap, ◌∙◌}
 use Rattle.replay.proofs.Calls.{left_all, left_more, left_none}
 use Rattle.replay.proofs.either.Bench.call_all.Goals as goal
 

@@ -1,4 +1,4 @@
-use Rattle.std.proofs.Common.{◌≡◌, ◌<◌, ◌≤◌, length, Err, ap, ◌∙◌, rules, le-leb}
+use Rattle.std.proofs.Common.{◌<◌, ◌≤◌, length, Err, ap, ◌∙◌, rules, le-leb}
 use borrow.Author.Tests.{lt-leb}
 use Rattle.refusal.specs.declared.Layer.TheVariants.{File}
 use Rattle.model.specs.Layout.{field_map, located, admitted}
