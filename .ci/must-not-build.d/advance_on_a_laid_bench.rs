@@ -1,4 +1,5 @@
 // refused: unknown-method: no method named `advance` found for type `Laid<R>`
+// over: refusal bus bench
 // A laid bench has no advance: it is started first.
 use bench::Laid;
 use bus::Rule;

@@ -1,4 +1,5 @@
 // refused: unknown-method: no method named `fit` found for type `Running<R>`
+// over: refusal bus bench
 // A running bench has no fit: it is stopped first.
 use bench::Running;
 use bus::Rule;

@@ -5,7 +5,7 @@ use Rattle.std.proofs.lemmas.List.{drop_more, drop_all, length-map}
 use Rattle.std.proofs.lemmas.Bool.{cond_both, cond-true, cond-false}
 use Rattle.std.proofs.lemmas.Bool.Decides.{nat_tests}
 use Rattle.std.specs.Option.{option_map}
-use Rattle.std.specs.List.{AllByRecursion as All}
+use Rattle.std.specs.List.{AllByRecursion}
 use Rattle.model.specs.Machine as model
 use Rattle.model.specs.Tally as model-tally
 use Rattle.model.specs.Tally.{how_many, sooner, soonest, failure_of, first_failure, tally}
@@ -106,7 +106,7 @@ module _ (u : ℕ) where
   two a b true e = sym (cond-true (sooner b a) _ _ e)
   two a b false e = sym (cond-false (sooner b a) _ _ e)
 
-  lead_soonest : (b : model-tally.Failure) (fs : List model-tally.Failure) → AtInstant b → All AtInstant fs → Some (lead slot_lower b fs) ≡ soonest (Some b) (soonest_of fs)
+  lead_soonest : (b : model-tally.Failure) (fs : List model-tally.Failure) → AtInstant b → AllByRecursion AtInstant fs → Some (lead slot_lower b fs) ≡ soonest (Some b) (soonest_of fs)
   unfolding lead
   lead_soonest b [] p all = refl
   lead_soonest b (f ∷ fs) p all =
@@ -115,14 +115,14 @@ module _ (u : ℕ) where
       ∙ ap (λ o. soonest o (soonest_of fs)) (two b f t (sooner_there f b all.0 p))
       ∙ soonest_assoc (Some b) (Some f) (soonest_of fs)
 
-  leader_soonest : (fs : List model-tally.Failure) → All AtInstant fs → leader slot_lower fs ≡ soonest_of fs
+  leader_soonest : (fs : List model-tally.Failure) → AllByRecursion AtInstant fs → leader slot_lower fs ≡ soonest_of fs
   leader_soonest [] all = refl
   leader_soonest (f ∷ fs) all = lead_soonest f fs all.0 all.1
 
-  all_failed : (es : List Ended) → All AtInstant (failed (map (ended_of u) es))
+  all_failed : (es : List Ended) → AllByRecursion AtInstant (failed (map (ended_of u) es))
   all_failed [] = tt
   all_failed (e ∷ es) =
-      elim e.failure as (λ t. All AtInstant (listed (cond t (Some (failure_noted (ended_of u e))) None) ++ failed (map (ended_of u) es))) [
+      elim e.failure as (λ t. AllByRecursion AtInstant (listed (cond t (Some (failure_noted (ended_of u e))) None) ++ failed (map (ended_of u) es))) [
         | true ↦ (refl, all_failed es)
         | false ↦ all_failed es
       ]

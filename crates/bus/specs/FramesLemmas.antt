@@ -1,7 +1,7 @@
 -- What every ready frame shows. Assumes nothing.
 use Rattle.std.specs.Prelude.{ℕ, ◌<◌, List, [], ◌∷◌, map, length, slice_index_or}
 use Rattle.std.proofs.ByRecursion.{All-get_or}
-use Rattle.std.specs.List.{AllByRecursion as All}
+use Rattle.std.specs.List.{AllByRecursion}
 use Rattle.model.specs.Ready.{Ready, Lawful}
 use Rattle.bus.specs.declared.ready.ReadyFrame.{ReadyFrame}
 use Rattle.bus.specs.Stands.{ready_of}
@@ -22,7 +22,7 @@ lawful f =
       left_most = f.most;
     }
 
-all_lawful : (fs : List ReadyFrame) → All Lawful (map ready_of fs)
+all_lawful : (fs : List ReadyFrame) → AllByRecursion Lawful (map ready_of fs)
 all_lawful [] = tt
 all_lawful (f ∷ fs) = (lawful f, all_lawful fs)
 

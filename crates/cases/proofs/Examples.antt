@@ -1,7 +1,7 @@
 -- The worked examples, each computed. Assumes nothing.
 use Rattle.std.proofs.Common.{◌≡◌, ℕ, zero, suc, ◌+◌, ◌^◌, ◌<◌, ◌≤◌, List, ◌∷◌, get_or, replicate, Some, None, Option, unwrap_or, sym, refl, ap, ◌∙◌, arith}
 use lib.Count.{ones, ones_in}
-use Rattle.std.specs.List.{AllByRecursion as All}
+use Rattle.std.specs.List.{AllByRecursion}
 use Rattle.binomial.specs.Choose.{at_least, choices, choose}
 use Rattle.firm.specs.Searches.{first_from}
 use Rattle.firm.specs.Histories.{distance, restoring, repeated, entered, passes}
@@ -98,7 +98,7 @@ nothing_fails = holds_next del (started empty) (started_sound empty refl tt) 0 1
 
 -- ---- all
 
-pub all_right : All Right cases
+pub all_right : AllByRecursion Right cases
 unfolding distance restoring first_from repeated entered passes ones ones_in at_least choices choose lcm hyper_period histories figures_over busy_units release start candidates started units_to after
 all_right =
     (refl, (refl, (refl, (refl, (refl, (refl, (refl, (refl, (refl, (refl, ((refl, refl), (all_met, (round_at_once, (round_later, (nothing_fails, (refl, tt))))))))))))))))

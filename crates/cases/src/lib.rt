@@ -2,9 +2,9 @@
 #![tactic(auto)]
 
 ghost use Rattle.cases.specs.Cases.{Right, cases};
-ghost use Rattle.std.specs.List.{AllByRecursion as All};
+ghost use Rattle.std.specs.List.{AllByRecursion};
 
 // Every worked example is right.
 pub fn worked_examples()
-    ensures { All Right cases }
+    ensures { AllByRecursion Right cases }
 {}

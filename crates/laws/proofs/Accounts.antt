@@ -1,6 +1,6 @@
 -- Every released frame has one outcome or is pending, and every outcome is timely. Assumes nothing.
 use Rattle.std.proofs.Common.{◌≡◌, ℕ, suc, ◌+◌, ◌≤◌, Bool, not, List, [], ◌∷◌, length, get_or, Some, None, Option, sym, refl, ap, ◌∙◌, subst, inl, inr, arith}
-use Rattle.std.specs.List.{AllByRecursion as All}
+use Rattle.std.specs.List.{AllByRecursion}
 use Rattle.std.specs.Option.{option_map}
 use Rattle.std.proofs.ByRecursion.{All-append, All-weaker}
 use Rattle.std.proofs.lemmas.Bool.{cases_eq}
@@ -143,8 +143,8 @@ module _ (before : Ready → Ready → Bool) (t : Table) (noise : List Bool) (h 
 -- ---- every outcome is timely
 
 module _ (before : Ready → Ready → Bool) (noisy : Bool) (s : State) (h : Sound s) where
-  timely_arrivals : (o : Option Transit) → (begun before noisy s).transit ≡ o → All (Timely (stream_at s)) (arrivals (begun before noisy s))
-  timely_arrivals None e = subst (All (Timely (stream_at s))) (sym (leave_none (begun before noisy s) e).1) tt
+  timely_arrivals : (o : Option Transit) → (begun before noisy s).transit ≡ o → AllByRecursion (Timely (stream_at s)) (arrivals (begun before noisy s))
+  timely_arrivals None e = subst (AllByRecursion (Timely (stream_at s))) (sym (leave_none (begun before noisy s) e).1) tt
   timely_arrivals (Some t) e =
       let b : State = begun before noisy s in
       let u : ℕ = s.now in
@@ -164,11 +164,11 @@ module _ (before : Ready → Ready → Bool) (noisy : Bool) (s : State) (h : Sou
               after_release = omega (arith, now-is, carried.released.born_before);
               by_deadline = omega (arith, then, carried.leaves_by);
             } in
-            subst (All (Timely (stream_at s))) (sym is) (timely, tt)
-        | inr later ↦ subst (All (Timely (stream_at s))) (sym (leave_later b t e later).1) tt
+            subst (AllByRecursion (Timely (stream_at s))) (sym is) (timely, tt)
+        | inr later ↦ subst (AllByRecursion (Timely (stream_at s))) (sym (leave_later b t e later).1) tt
       ]
 
-  timely_drops : All (Timely (stream_at s)) (drops (leave (begun before noisy s)).now 0 (leave (begun before noisy s)).rows)
+  timely_drops : AllByRecursion (Timely (stream_at s)) (drops (leave (begun before noisy s)).now 0 (leave (begun before noisy s)).rows)
   timely_drops =
       let x : State = leave (begun before noisy s) in
       let u : ℕ = s.now in
@@ -184,14 +184,14 @@ module _ (before : Ready → Ready → Bool) (noisy : Bool) (s : State) (h : Sou
         by_deadline = omega (arith, now-is, sound.in_time j w, sound.lawful.service_some);
       })
 
-  pub timely_unit : All (Timely (stream_at s)) (outcomes before noisy s)
+  pub timely_unit : AllByRecursion (Timely (stream_at s)) (outcomes before noisy s)
   unfolding outcomes
   timely_unit =
       All-append (Timely (stream_at s)) (arrivals (begun before noisy s)) (drops (leave (begun before noisy s)).now 0 (leave (begun before noisy s)).rows)
       (timely_arrivals (begun before noisy s).transit refl) timely_drops
 
 -- an outcome that is timely for some streams is so for the same streams
-timely_same : (a b : ℕ → Option Stream) → ((i : ℕ) → a i ≡ b i) → (os : List Outcome) → All (Timely a) os → All (Timely b) os
+timely_same : (a b : ℕ → Option Stream) → ((i : ℕ) → a i ≡ b i) → (os : List Outcome) → AllByRecursion (Timely a) os → AllByRecursion (Timely b) os
 timely_same a b same os h =
     All-weaker (Timely a) (Timely b) (λ o k. record {
       stream = k.stream;
@@ -201,7 +201,7 @@ timely_same a b same os h =
       by_deadline = k.by_deadline;
     }) os h
 
-pub timely_run : (before : Ready → Ready → Bool) (s : State) (noise : List Bool) → Sound s → All (Timely (stream_at s)) (ran before s noise)
+pub timely_run : (before : Ready → Ready → Bool) (s : State) (noise : List Bool) → Sound s → AllByRecursion (Timely (stream_at s)) (ran before s noise)
 unfolding ran
 timely_run before s [] h = tt
 timely_run before s (noisy ∷ noise) h =
@@ -209,7 +209,7 @@ timely_run before s (noisy ∷ noise) h =
     All-append (Timely (stream_at s)) (outcomes before noisy s) (ran before x noise) (timely_unit before noisy s h)
     (timely_same (stream_at x) (stream_at s) (stream_unit before noisy s) (ran before x noise) (timely_run before x noise (unit_sound before noisy s h)))
 
-pub timely_from_start : (before : Ready → Ready → Bool) (t : Table) (noise : List Bool) → LawfulTable t → All (Timely (λ i. get_or t i None)) (ran before (started t) noise)
+pub timely_from_start : (before : Ready → Ready → Bool) (t : Table) (noise : List Bool) → LawfulTable t → AllByRecursion (Timely (λ i. get_or t i None)) (ran before (started t) noise)
 timely_from_start before t noise h =
     timely_same (stream_at (started t)) (λ i. get_or t i None) (stream_started t) (ran before (started t) noise)
     (timely_run before (started t) noise (table_sound t h))

@@ -1,7 +1,7 @@
 -- The steps of a unit keep a state sound. Assumes nothing.
 use Rattle.std.proofs.Common.{◌≡◌, ℕ, ◌+◌, ◌*◌, ◌/◌, ◌%◌, ◌^◌, ◌<◌, ◌≤◌, Bool, true, false, cond, not, eqb, length, Some, None, Option, sym, refl, ap, ◌∙◌, subst, inl, inr, mod-lt, arith, pow_pos}
 use Rattle.std.proofs.lemmas.Bool.{cond_both, eqb-true, eqb-false, ltb-false, cases_eq}
-use Rattle.std.specs.List.{AllByRecursion as All}
+use Rattle.std.specs.List.{AllByRecursion}
 use Rattle.std.specs.Option.{option_map}
 use Rattle.model.specs.Tables.{Divides}
 use Rattle.model.specs.Machine.{Row, Rows, Transit, State, Candidate, born, due, with_waiting, with_outcome, in_slot, release_row, release, candidate, candidates, front, starting, start, hit, mark, tick, leaving, leave, hopeless, dropping, drop_row, drop, begun, unit}
@@ -88,7 +88,7 @@ abbrev pub WaitsIn : ℕ → Rows → Candidate → Type 0
 WaitsIn u rows c =
     (r : Row) × (row_at rows c.shown.slot ≡ Some r) × (r.waits ≡ Some c.frame) × (c ≡ candidate u c.shown.slot r c.frame)
 
-pub candidates_wait : (u : ℕ) (rows : Rows) → All (WaitsIn u rows) (candidates u 0 rows)
+pub candidates_wait : (u : ℕ) (rows : Rows) → AllByRecursion (WaitsIn u rows) (candidates u 0 rows)
 candidates_wait u rows =
     all_candidates (WaitsIn u rows) u 0 rows (λ k r j e w.
     let at : 0 + k ≡ k = omega arith in

@@ -1,6 +1,6 @@
 -- What is true of every unit from a sound state. Assumes nothing.
 use Rattle.std.proofs.Common.{◌≡◌, ℕ, ◌+◌, ◌<◌, ◌≤◌, Bool, true, false, not, List, length, Some, None, Option, sym, refl, ap, ◌∙◌, subst, inl, inr, arith}
-use Rattle.std.specs.List.{AllByRecursion as All}
+use Rattle.std.specs.List.{AllByRecursion}
 use Rattle.std.specs.Option.{option_map}
 use Rattle.std.proofs.lemmas.Bool.{ltb-true}
 use Rattle.model.specs.Tables.{Divides}
@@ -104,11 +104,11 @@ module _ (before : Ready → Ready → Bool) (s : State) where
       let starts : start before s ≡ starting None (Some c) s =
       ap (λ o. starting o (front before cs) s) idle ∙ ap (λ d. starting None d s) e in
       let C : c.shown.service ≡ r.stream.service = ap (λ (x : Candidate). x.shown.service) p.3 in
-      let all_lawful : All (λ (d : Candidate). Lawful d.shown) cs =
+      let all_lawful : AllByRecursion (λ (d : Candidate). Lawful d.shown) cs =
       all_candidates (λ d. Lawful d.shown) u 0 s.rows (λ k q l k-at k-waits.
       let at : k ≡ 0 + k = omega arith in
       subst (λ n. Lawful (candidate u n q l).shown) at (lawful k q l (k-at, k-waits))) in
-      let led : All (Leads before c) cs = front_leads before total chain cs c e all_lawful (rising_candidates u 0 s.rows) in (
+      let led : AllByRecursion (Leads before c) cs = front_leads before total chain cs c e all_lawful (rising_candidates u 0 s.rows) in (
         i,
         r,
         c.frame,
@@ -199,7 +199,7 @@ transit_laws before noisy s h =
 
 -- ---- the frames that are dropped
 
-pub dropped_laws : (before : Ready → Ready → Bool) (noisy : Bool) (s : State) → Sound s → All (Dropped s s.now (s.now + 1)) (dropped_in before noisy s)
+pub dropped_laws : (before : Ready → Ready → Bool) (noisy : Bool) (s : State) → Sound s → AllByRecursion (Dropped s s.now (s.now + 1)) (dropped_in before noisy s)
 dropped_laws before noisy s h =
     let x : State = leave (begun before noisy s) in
     let now-is : x.now ≡ s.now + 1 = leave_now before noisy s in

@@ -2,7 +2,7 @@
 #![tactic(auto)]
 
 ghost use Rattle.std.specs.Prelude.{◌≡◌, ℕ, ◌+◌, ◌≤◌, Bool, List, length, get_or, Some, None, slice_index_or};
-ghost use Rattle.std.specs.List.{AllByRecursion as All};
+ghost use Rattle.std.specs.List.{AllByRecursion};
 ghost use Rattle.model.specs.Streams.{Stream};
 ghost use Rattle.model.specs.Tables.{Table, Divides, hyper_period};
 ghost use Rattle.model.specs.Ready.{Total, Chain};
@@ -38,7 +38,7 @@ pub fn transit_laws()
 
 // A waiting frame is dropped at the first instant from which it can no longer be sent by its deadline, and not before.
 pub fn drop_laws()
-    ensures dropped { (before : Ranking) (noisy : Bool) (s : State) → Sound s → All (Dropped s s.now (s.now + 1)) (dropped_in before noisy s) }
+    ensures dropped { (before : Ranking) (noisy : Bool) (s : State) → Sound s → AllByRecursion (Dropped s s.now (s.now + 1)) (dropped_in before noisy s) }
     ensures left { (before : Ranking) (noisy : Bool) (s : State) → Sound s → (i : ℕ) (r : Row) (j : ℕ) → Waits (unit before noisy s) i r j → (unit before noisy s).now + r.stream.service ≤ due r.stream j }
 {}
 
@@ -47,5 +47,5 @@ pub fn drop_laws()
 pub fn outcome_laws()
     ensures account { (before : Ranking) (s : State) (noise : List Bool) → Sound s → (i : ℕ) (f : Stream) (j : ℕ) → stream_at s i ≡ Some f → 1 ≤ j → told i j (ran before s noise) + pending (run before s noise) i j ≡ pending s i j + released s.now (s.now + length noise) f j }
     ensures once { (before : Ranking) (t : Table) (noise : List Bool) → LawfulTable t → (i : ℕ) (f : Stream) (j : ℕ) → slice_index_or t i None ≡ Some f → 1 ≤ j → Once f j (length noise) (told i j (ran before (started t) noise)) }
-    ensures timely { (before : Ranking) (t : Table) (noise : List Bool) → LawfulTable t → All (Timely (λ i. get_or t i None)) (ran before (started t) noise) }
+    ensures timely { (before : Ranking) (t : Table) (noise : List Bool) → LawfulTable t → AllByRecursion (Timely (λ i. get_or t i None)) (ran before (started t) noise) }
 {}

@@ -2,7 +2,7 @@
 -- which it comes round, or its first failure; and of which state it speaks after any list of calls of a bench. Assumes nothing.
 use Rattle.std.specs.Prelude.{◌≡◌, ℕ, ◌+◌, ◌-◌, ◌*◌, ◌%◌, ◌<◌, ◌≤◌, Bool, true, false, ◌⊎◌, List, map, Some, Option}
 use Rattle.std.specs.Option.{option_map}
-use Rattle.std.specs.List.{AllByRecursion as All, slice_get}
+use Rattle.std.specs.List.{AllByRecursion, slice_get}
 use Rattle.model.specs.Tables.{Table, hyper_period, histories}
 use Rattle.model.specs.Ready.{Ready}
 use Rattle.model.specs.Machine.{State, Outcome}
@@ -35,7 +35,7 @@ module _ (before : Ready → Ready → Bool) (s : State) where
 
   -- no outcome of the quiet schedule is a dynamic failure
   abbrev pub NeverFails : Type 0
-  NeverFails = (n : ℕ) → All (λ o. o.failure ≡ false) (given before s n)
+  NeverFails = (n : ℕ) → AllByRecursion (λ o. o.failure ≡ false) (given before s n)
 
   -- the forecast holds, with two boundaries: all histories agree at these two and at no other two up to the later
   pub record Holds (i j : ℕ) : Type 0 where

@@ -1,6 +1,6 @@
 -- The failures among the outcomes of a unit, which all have one instant. Assumes nothing.
 use Rattle.std.proofs.Common.{◌≡◌, ℕ, zero, suc, ◌+◌, Bool, true, false, not, List, [], ◌∷◌, Some, None, Option, sym, refl, subst, inl, inr, arith}
-use Rattle.std.specs.List.{AllByRecursion as All, slice_get}
+use Rattle.std.specs.List.{AllByRecursion, slice_get}
 use Rattle.std.proofs.ByRecursion.{All-append, All-weaker}
 use Rattle.std.proofs.lemmas.Bool.{both_ways, cases_eq, or_parts, or_from}
 use Rattle.model.specs.Ready.{Ready}
@@ -25,7 +25,7 @@ fine_tells [] h = refl
 fine_tells (o ∷ os) h = or_from o.failure (failed os) h.0 (fine_tells os h.1)
 
 -- what holds of all elements holds of one
-pub all_nth : {X : Type 0} (P : X → Type 0) (xs : List X) (i : ℕ) (x : X) → All P xs → slice_get xs i ≡ Some x → P x
+pub all_nth : {X : Type 0} (P : X → Type 0) (xs : List X) (i : ℕ) (x : X) → AllByRecursion P xs → slice_get xs i ≡ Some x → P x
 all_nth P [] i x h e = absurd (let z : ◌≡◌ {A = ℕ} 0 1 = cc in omega arith)
 all_nth P (y ∷ xs) zero x h e = let same : y ≡ x = cc in subst P same h.0
 all_nth P (y ∷ xs) (suc i) x h e = all_nth P xs i x h.1 e
@@ -35,32 +35,32 @@ all_nth P (y ∷ xs) (suc i) x h e = all_nth P xs i x h.1 e
 AtInstant : ℕ → Outcome → Type 0
 AtInstant u o = o.instant ≡ u
 
-arrived_at : (u i j : ℕ) (met : Bool) (o : Option Row) → All (AtInstant u) (outcome_in o (outcome u i j met))
+arrived_at : (u i j : ℕ) (met : Bool) (o : Option Row) → AllByRecursion (AtInstant u) (outcome_in o (outcome u i j met))
 unfolding AtInstant
 arrived_at u i j met None = tt
 arrived_at u i j met (Some r) = (refl, tt)
 
-arrivals_at : (s : State) (o : Option Transit) → s.transit ≡ o → All (AtInstant s.now) (arrivals s)
-arrivals_at s None e = subst (All (AtInstant s.now)) (sym (leave_none s e).1) tt
+arrivals_at : (s : State) (o : Option Transit) → s.transit ≡ o → AllByRecursion (AtInstant s.now) (arrivals s)
+arrivals_at s None e = subst (AllByRecursion (AtInstant s.now)) (sym (leave_none s e).1) tt
 arrivals_at s (Some t) e = elim (cases_eq t.end s.now) [
   | inl then ↦
-      subst (All (AtInstant s.now)) (sym (leave_then s t e then).1)
+      subst (AllByRecursion (AtInstant s.now)) (sym (leave_then s t e then).1)
       (arrived_at s.now t.slot t.frame (not t.marked) (row_at s.rows t.slot))
-  | inr later ↦ subst (All (AtInstant s.now)) (sym (leave_later s t e later).1) tt
+  | inr later ↦ subst (AllByRecursion (AtInstant s.now)) (sym (leave_later s t e later).1) tt
 ]
 
 module _ (before : Ready → Ready → Bool) (noisy : Bool) (s : State) where
-  pub outcomes_at : All (λ o. o.instant ≡ s.now + 1) (outcomes before noisy s)
+  pub outcomes_at : AllByRecursion (λ o. o.instant ≡ s.now + 1) (outcomes before noisy s)
   unfolding outcomes AtInstant
   outcomes_at =
       let b : State = begun before noisy s in
       let x : State = leave b in
       All-append (AtInstant (s.now + 1)) (arrivals b) (drops x.now 0 x.rows)
-      (subst (λ u. All (AtInstant u) (arrivals b)) (begun_now before noisy s) (arrivals_at b b.transit refl))
+      (subst (λ u. AllByRecursion (AtInstant u) (arrivals b)) (begun_now before noisy s) (arrivals_at b b.transit refl))
       (all_drops (AtInstant (s.now + 1)) x.now 0 x.rows (λ k r j e w l. leave_now before noisy s))
 
 module _ (before : Ready → Ready → Bool) (s : State) where
-  pub given_at : (n : ℕ) → All (λ o. o.instant ≡ s.now + n + 1) (given before s n)
+  pub given_at : (n : ℕ) → AllByRecursion (λ o. o.instant ≡ s.now + n + 1) (given before s n)
   given_at n =
       let x : State = after before s n in
       All-weaker (λ (o : Outcome). o.instant ≡ x.now + 1) (λ (o : Outcome). o.instant ≡ s.now + n + 1)

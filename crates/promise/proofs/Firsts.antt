@@ -1,6 +1,6 @@
 -- The first failure among some outcomes is the one that is picked from them. Assumes nothing.
 use Rattle.std.proofs.Common.{◌≡◌, suc, ◌<◌, ◌≤◌, Bool, true, false, cond, ◌⊎◌, List, [], ◌∷◌, Some, None, Option, refl, subst, inl, inr, arith}
-use Rattle.std.specs.List.{AllByRecursion as All}
+use Rattle.std.specs.List.{AllByRecursion}
 use Rattle.std.proofs.ByRecursion.{All-weaker}
 use Rattle.std.proofs.lemmas.Bool.{both_ways, cond_both, cases_order}
 use Rattle.std.proofs.lemmas.Bool.Decides.{nat_tests}
@@ -43,7 +43,7 @@ sooner_ahead o g e = elim (cases_order g.instant o.instant) [
 ]
 
 -- no failure: behind every one
-behind_none : (f : Failure) (os : List Outcome) → NoneFails os → All (λ o. o.failure ≡ true → Ahead f o) os
+behind_none : (f : Failure) (os : List Outcome) → NoneFails os → AllByRecursion (λ o. o.failure ≡ true → Ahead f o) os
 behind_none f os h =
     All-weaker (λ (o : Outcome). o.failure ≡ false) (λ (o : Outcome). o.failure ≡ true → Ahead f o) (λ o no yes. absurd (both_ways o.failure no yes)) os h
 
@@ -60,7 +60,7 @@ picked_later o os g ahead p = record {
   first = (ahead, p.first);
 }
 
-picked_here : (o : Outcome) (os : List Outcome) → o.failure ≡ true → All (λ x. x.failure ≡ true → Ahead (shown o) x) os → FirstOf (o ∷ os) (shown o)
+picked_here : (o : Outcome) (os : List Outcome) → o.failure ≡ true → AllByRecursion (λ x. x.failure ≡ true → Ahead (shown o) x) os → FirstOf (o ∷ os) (shown o)
 picked_here o os e first = record {
   place = 0;
   outcome = o;

@@ -1,6 +1,6 @@
 -- The quiet schedule as a run of quiet units: the same states and outcomes. Assumes nothing.
 use Rattle.std.proofs.Common.{◌≡◌, ℕ, zero, suc, ◌+◌, ◌<◌, Bool, true, false, ◌⊎◌, List, [], ◌∷◌, ◌++◌, replicate, Some, None, sym, refl, ap, ◌∙◌, subst, inl, inr, append-nil, arith}
-use Rattle.std.specs.List.{AllByRecursion as All, slice_get}
+use Rattle.std.specs.List.{AllByRecursion, slice_get}
 use Rattle.std.proofs.lemmas.Bool.{cases_lt}
 use Rattle.model.specs.Ready.{Ready}
 use Rattle.model.specs.Machine.{State, Outcome, unit, outcomes}
@@ -37,12 +37,12 @@ module _ (before : Ready → Ready → Bool) where
   run_quiet s (suc n) = run_quiet (unit before false s) n ∙ sym (after_first s n)
 
   -- what holds of all outcomes of the run holds of those of each unit
-  pub all_ran : (Q : Outcome → Type 0) (s : State) (n : ℕ) → All Q (ran before s (quiet n)) → (k : ℕ) → k < n → All Q (given before s k)
+  pub all_ran : (Q : Outcome → Type 0) (s : State) (n : ℕ) → AllByRecursion Q (ran before s (quiet n)) → (k : ℕ) → k < n → AllByRecursion Q (given before s k)
   unfolding ran after
   all_ran Q s zero h k l = absurd (omega arith)
   all_ran Q s (suc n) h zero l = (all_parts Q (outcomes before false s) (ran before (unit before false s) (quiet n)) h).0
   all_ran Q s (suc n) h (suc k) l =
-      subst (λ x. All Q (outcomes before false x)) (sym (after_first s k))
+      subst (λ x. AllByRecursion Q (outcomes before false x)) (sym (after_first s k))
       (all_ran Q (unit before false s) n (all_parts Q (outcomes before false s) (ran before (unit before false s) (quiet n)) h).1 k (omega arith))
 
   -- an outcome of the run is one of a unit

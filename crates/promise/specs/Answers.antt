@@ -1,6 +1,6 @@
 -- What a search has to find to give the answer of a forecast. Assumes nothing.
 use Rattle.std.specs.Prelude.{◌≡◌, ℕ, ◌+◌, ◌<◌, ◌≤◌, Bool, true, ◌⊎◌, List, Some, ◌≢◌}
-use Rattle.std.specs.List.{AllByRecursion as All, slice_get}
+use Rattle.std.specs.List.{AllByRecursion, slice_get}
 use Rattle.model.specs.Ready.{Ready}
 use Rattle.model.specs.Machine.{State, Outcome}
 use Rattle.model.specs.Schedule.{after}
@@ -17,7 +17,7 @@ pub record FirstOf (os : List Outcome) (f : Failure) : Type 0 where
   pub slot : f.slot ≡ outcome.slot
   pub frame : f.frame ≡ outcome.frame
   pub instant : f.instant ≡ outcome.instant
-  pub first : All (λ o. o.failure ≡ true → (f.instant < o.instant) ⊎ ((f.instant ≡ o.instant) × (f.slot ≤ o.slot))) os
+  pub first : AllByRecursion (λ o. o.failure ≡ true → (f.instant < o.instant) ⊎ ((f.instant ≡ o.instant) × (f.slot ≤ o.slot))) os
 
 module _ (before : Ready → Ready → Bool) (s : State) where
   -- x stands n quiet units after s, and none of them has a failure

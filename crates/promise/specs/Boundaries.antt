@@ -1,6 +1,6 @@
 -- The boundaries of the quiet schedule from a state, and that no failure lies before one of them. Assumes nothing.
 use Rattle.std.specs.Prelude.{◌≡◌, ℕ, ◌+◌, ◌-◌, ◌*◌, ◌<◌, ◌≤◌, Bool, false, List}
-use Rattle.std.specs.List.{AllByRecursion as All}
+use Rattle.std.specs.List.{AllByRecursion}
 use Rattle.model.specs.Tables.{Divides, histories}
 use Rattle.model.specs.Ready.{Ready}
 use Rattle.model.specs.Machine.{State, Outcome}
@@ -10,7 +10,7 @@ use Rattle.rounds.specs.Boundaries.{Idle, Agrees}
 
 -- none of the outcomes is a dynamic failure
 abbrev pub NoneFails : List Outcome → Type 0
-NoneFails os = All (λ o. o.failure ≡ false) os
+NoneFails os = AllByRecursion (λ o. o.failure ≡ false) os
 
 module _ (before : Ready → Ready → Bool) (s : State) where
   -- no outcome of the first n units is a dynamic failure
