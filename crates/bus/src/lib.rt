@@ -6,7 +6,6 @@ pub mod failure;
 pub mod first;
 pub mod front;
 pub mod keys;
-pub mod laws;
 pub mod layers;
 pub mod machine;
 #[cfg(test)]
@@ -14,6 +13,7 @@ mod machine_tests;
 pub mod named;
 pub mod ready;
 pub mod rule;
+pub mod showing;
 #[cfg(test)]
 mod tests;
 
