@@ -1,7 +1,7 @@
 // What is true of the bus machine over whole runs, for every ranking and every noise. Its definitions alone are spoken of, and no code.
 #![tactic(auto)]
 
-ghost use Rattle.std.specs.Prelude.{◌≡◌, ℕ, ◌+◌, ◌≤◌, Bool, List, length, get_or, Some, None, slice_index_or};
+ghost use Rattle.std.specs.Prelude.{◌≡◌, ℕ, ◌+◌, ◌≤◌, Bool, List, length, Some, None, slice_index_or};
 ghost use Rattle.std.specs.List.{AllByRecursion};
 ghost use Rattle.model.specs.Streams.{Stream};
 ghost use Rattle.model.specs.Tables.{Table, Divides, hyper_period};
@@ -47,5 +47,5 @@ pub fn drop_laws()
 pub fn outcome_laws()
     ensures account { (before : Ranking) (s : State) (noise : List Bool) → Sound s → (i : ℕ) (f : Stream) (j : ℕ) → stream_at s i ≡ Some f → 1 ≤ j → told i j (ran before s noise) + pending (run before s noise) i j ≡ pending s i j + released s.now (s.now + length noise) f j }
     ensures once { (before : Ranking) (t : Table) (noise : List Bool) → LawfulTable t → (i : ℕ) (f : Stream) (j : ℕ) → slice_index_or t i None ≡ Some f → 1 ≤ j → Once f j (length noise) (told i j (ran before (started t) noise)) }
-    ensures timely { (before : Ranking) (t : Table) (noise : List Bool) → LawfulTable t → AllByRecursion (Timely (λ i. get_or t i None)) (ran before (started t) noise) }
+    ensures timely { (before : Ranking) (t : Table) (noise : List Bool) → LawfulTable t → AllByRecursion (Timely (λ i. slice_index_or t i None)) (ran before (started t) noise) }
 {}

@@ -1,5 +1,5 @@
 -- The margin of a stream under the longest other frame. Assumes nothing.
-use Rattle.std.specs.Prelude.{Bool, ℕ, ◌-◌, ◌/◌, ltb}
+use Rattle.std.specs.Prelude.{Bool, ℕ, ◌-◌, ◌/◌, nat_lt}
 use Rattle.bus.specs.Rules.{layered}
 use Rattle.firm.specs.Histories.{distance_of}
 use Rattle.model.specs.Ready.{Ready}
@@ -14,4 +14,4 @@ by_margin longest below = layered (margin longest) below
 
 -- the slots counted down from 7, the fewer first
 abbrev pub from_last : Ready → Ready → Bool
-from_last a b = ltb (7 - a.slot) (7 - b.slot)
+from_last a b = nat_lt (7 - a.slot) (7 - b.slot)

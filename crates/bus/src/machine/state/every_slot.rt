@@ -8,7 +8,7 @@ use crate::machine::state::State;
 impl State {
     // Step 1: each occupied slot whose period divides the instant releases a frame, which waits.
     pub(crate) fn release(&mut self)
-        ensures { standing self.exit.now ≡ release (standing self.entry.now) }
+        ensures { standing self.new ≡ release (standing self.old) }
     {
         let instant = self.now;
         for slot in self.rows.iter_mut() {
@@ -20,7 +20,7 @@ impl State {
 
     // Step 6: each waiting frame that can no longer be sent in time is dropped and has missed.
     pub(crate) fn drop(&mut self)
-        ensures { standing self.exit.now ≡ drop (standing self.entry.now) }
+        ensures { standing self.new ≡ drop (standing self.old) }
     {
         let instant = self.now;
         for slot in self.rows.iter_mut() {

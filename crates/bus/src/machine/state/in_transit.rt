@@ -9,22 +9,22 @@ use crate::machine::transit::marking::after_noise;
 impl State {
     // Step 3: in a noisy unit the frame in transit is marked.
     pub(crate) fn mark(&mut self, noisy: bool)
-        ensures { standing self.exit.now ≡ mark noisy (standing self.entry.now) }
+        ensures { standing self.new ≡ mark noisy (standing self.old) }
     {
         self.transit = after_noise(self.transit, noisy);
     }
 
     // Step 4: the instant becomes the next one.
     pub(crate) fn tick(&mut self)
-        requires { self.now.now < 2 ^ 41 }
-        ensures { standing self.exit.now ≡ tick (standing self.entry.now) }
+        requires { self.old.now < 2 ^ 41 }
+        ensures { standing self.new ≡ tick (standing self.old) }
     {
         self.now += 1;
     }
 
     // Step 5: the frame in transit leaves if its end is now; it has met, or has missed if marked.
     pub(crate) fn leave(&mut self)
-        ensures { standing self.exit.now ≡ leave (standing self.entry.now) }
+        ensures { standing self.new ≡ leave (standing self.old) }
     {
         let Some(transit) = self.transit else {
             return;

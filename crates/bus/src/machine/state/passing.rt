@@ -13,9 +13,9 @@ use crate::rule::Rule;
 impl State {
     // One unit, noisy or quiet: its six steps, and what is told of its outcomes.
     pub(crate) fn unit<R: Rule>(&mut self, rule: &R, noisy: bool) -> Tally
-        requires { (self.now.now < 2 ^ 41) × (∥ Sound (standing self.now) ∥₁) }
-        ensures state { standing self.exit.now ≡ unit (R.before rule.now) noisy (standing self.entry.now) }
-        ensures told { tally_of result ≡ tally (outcomes (R.before rule.now) noisy (standing self.entry.now)) }
+        requires { (self.old.now < 2 ^ 41) × (∥ Sound (standing self.old) ∥₁) }
+        ensures state { standing self.new ≡ unit (R.before rule.now) noisy (standing self.old) }
+        ensures told { tally_of result ≡ tally (outcomes (R.before rule.now) noisy (standing self.old)) }
     {
         self.release();
         self.start(rule);

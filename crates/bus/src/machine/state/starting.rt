@@ -60,8 +60,8 @@ fn front<R: Rule>(rule: &R, rows: &[Option<Row>], instant: u64) -> Option<Candid
 impl State {
     // Step 2: with nothing in transit and some frame waiting, the front starts.
     pub(crate) fn start<R: Rule>(&mut self, rule: &R)
-        requires { AllSendable self.now.now (rows_of self.now.rows) }
-        ensures { standing self.exit.now ≡ start (R.before rule.now) (standing self.entry.now) }
+        requires { AllSendable self.old.now (rows_of self.old.rows) }
+        ensures { standing self.new ≡ start (R.before rule.now) (standing self.old) }
     {
         if self.transit.is_some() {
             return;
@@ -73,7 +73,7 @@ impl State {
 
     // A frame no longer waits, and is in transit until its service time is over.
     fn send(&mut self, candidate: Candidate)
-        ensures { standing self.exit.now ≡ starting None (Some (candidate_of candidate)) (standing self.entry.now) }
+        ensures { standing self.new ≡ starting None (Some (candidate_of candidate)) (standing self.old) }
     {
         let shown = candidate.shown;
         let slot = usize::from(shown.slot());
