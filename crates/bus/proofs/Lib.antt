@@ -1,4 +1,5 @@
 -- Lemmas that the functions' proofs and other crates cite. Assumes nothing.
+pub mod Frames
 pub mod Leading
 pub mod Walking
 pub mod Writing

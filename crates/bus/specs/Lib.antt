@@ -13,4 +13,3 @@ pub mod Fews
 pub mod Leaders
 pub mod Waiting
 pub mod Endings
-pub mod FramesLemmas

@@ -1,7 +1,7 @@
 ghost use Rattle.std.specs.Prelude.{◌≡◌, map};
 ghost use Rattle.bus.specs.First.{First, first_place};
 ghost use Rattle.bus.specs.Stands.{ready_of};
-ghost use Rattle.bus.specs.FramesLemmas.{lawful};
+ghost use Rattle.std.proofs.Common.{rules};
 
 use crate::first::{Precedes, first_at};
 use crate::ready::ReadyFrame;
@@ -13,9 +13,9 @@ impl<R: Rule> Precedes<ReadyFrame> for R {
 
     ghost ahead = { λ s a b. R.Rule.before s (ready_of a) (ready_of b) };
 
-    ghost total = { λ s a b. R.Rule.total s (ready_of a) (ready_of b) (lawful a) (lawful b) };
+    ghost total = { λ s a b. R.Rule.total s (ready_of a) (ready_of b) (Prim.search rules) (Prim.search rules) };
 
-    ghost chain = { λ s a b c. R.Rule.chain s (ready_of a) (ready_of b) (ready_of c) (lawful a) (lawful b) (lawful c) };
+    ghost chain = { λ s a b c. R.Rule.chain s (ready_of a) (ready_of b) (ready_of c) (Prim.search rules) (Prim.search rules) (Prim.search rules) };
 
     fn precedes(&self, a: &ReadyFrame, b: &ReadyFrame) -> bool {
         self.goes_before(a, b)

@@ -2,7 +2,7 @@ use Rattle.std.proofs.Common.{map, sym, ◌∙◌, subst}
 use Rattle.model.specs.Ready.{Ready}
 use Rattle.bus.specs.First.{First}
 use Rattle.bus.specs.Stands.{ready_of}
-use Rattle.bus.specs.FramesLemmas.{each_lawful}
+use Rattle.bus.proofs.Frames.{each_lawful}
 use Rattle.bus.proofs.Leading.{front_by_rule}
 use Rattle.bus.proofs.Walking.{first_place_map}
 use Rattle.bus.proofs.front.front_at.Goals as goal
