@@ -1,3 +1,4 @@
 -- Facts on what the slots of a table stand for, and on a slot that is written. Assumes nothing.
+pub mod Multiples
 pub mod Slots
 pub mod Written
