@@ -1,4 +1,6 @@
 -- Facts on what the slots of a table stand for, and on a slot that is written. Assumes nothing.
 pub mod Multiples
+pub mod Present
+pub mod Products
 pub mod Slots
 pub mod Written
