@@ -20,19 +20,22 @@ fn common_multiple(a: u32, b: u32) -> Option<u32>
         .find(|multiple| multiple % b == 0)
 }
 
+// The least common multiple of a hyper-period so far and the period of one stream more, which is known to stay within the limit.
+fn with_period(p: u32, stream: &Stream) -> u32
+    requires positive { 0 < p }
+    requires within { lcm p stream.now.period ≤ 36864 }
+    ensures { result ≡ lcm p stream.now.period }
+{
+    common_multiple(p, u32::from(stream.period())).unwrap()
+}
+
 impl Table {
     // The hyper-period P: the least common multiple of the periods, 1 for the empty table.
     pub fn hyper_period(&self) -> u32
         ensures value { result ≡ hyper_period (table_of self.now) }
         ensures least { LeastCommon (table_of self.now) result }
     {
-        let mut p = 1;
-        for slot in &self.slots {
-            if let Some(stream) = slot {
-                p = common_multiple(p, u32::from(stream.period())).unwrap();
-            }
-        }
-        p
+        self.slots.iter().flatten().fold(1, with_period)
     }
 
     // Whether the hyper-period stays within its limit with one more stream.
