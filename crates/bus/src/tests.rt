@@ -4,6 +4,7 @@ use crate::front::front_at;
 use crate::keys::{Distance, Period, Restoring, SlotRank, TimeLeft};
 use crate::layers::{Key, Layer};
 use crate::named::*;
+use crate::ranking::Ranking;
 use crate::ready::ReadyFrame;
 use crate::rule::Rule;
 use std::test::Fail;
@@ -30,7 +31,7 @@ fn ready((slot, period, left, history): (u8, u64, u16, u64)) -> Result<ReadyFram
 fn over_bottoms<K: Key + Copy>(key: K, [a, b]: [ReadyFrame; 2]) -> [bool; 2] {
     [
         Layer::over(key, Lower).goes_before(&a, &b),
-        Layer::over(key, Higher).goes_before(&a, &b),
+        Layer::over(key, Higher::default()).goes_before(&a, &b),
     ]
 }
 
@@ -46,12 +47,12 @@ fn by_layers(pair: [ReadyFrame; 2]) -> [[bool; 2]; 5] {
 
 fn by_named([a, b]: [ReadyFrame; 2]) -> [bool; 6] {
     [
-        Del::new().goes_before(&a, &b),
-        Deh::new().goes_before(&a, &b),
-        Dml::new().goes_before(&a, &b),
-        Drel::new().goes_before(&a, &b),
-        El::new().goes_before(&a, &b),
-        Ml::new().goes_before(&a, &b),
+        Del::default().goes_before(&a, &b),
+        Deh::default().goes_before(&a, &b),
+        Dml::default().goes_before(&a, &b),
+        Drel::default().goes_before(&a, &b),
+        El::default().goes_before(&a, &b),
+        Ml::default().goes_before(&a, &b),
     ]
 }
 
@@ -125,9 +126,9 @@ fn firsts(rt: HostRuntime) -> Result<(), Fail> {
         ready((1, 9, 2, OLDEST))?,
     ];
     let fronts = [
-        front_at(&Del::new(), &frames),
-        front_at(&Deh::new(), &frames),
-        front_at(&Dml::new(), &frames),
+        front_at(&Del::default(), &frames),
+        front_at(&Deh::default(), &frames),
+        front_at(&Dml::default(), &frames),
         front_at(&Lower, &[]),
     ];
     assert_eq!(rt; fronts, [Some(3), Some(2), Some(1), None]);
@@ -152,5 +153,29 @@ fn firsts(rt: HostRuntime) -> Result<(), Fail> {
         [first_failure(&failures), first_failure(&[])],
         [Some(1), None]
     );
+    Ok(())
+}
+
+// Each word names its ranking rule, and no other word names one.
+#[test]
+fn words(rt: HostRuntime) -> Result<(), Fail> {
+    for ranking in Ranking::ALL {
+        assert_eq!(rt; Ranking::named(ranking.word().as_bytes()), Some(ranking));
+    }
+    for text in ["", "DE", "del", "DELL", "DHE"] {
+        assert_eq!(rt; Ranking::named(text.as_bytes()), None);
+    }
+    Ok(())
+}
+
+#[test]
+fn failure_texts(rt: HostRuntime) -> Result<(), Fail> {
+    let failure = Failure {
+        slot: 6,
+        frame: 12,
+        instant: 340,
+    };
+    let text = failure.to_string(rt.alloc())?;
+    assert_eq!(rt; text.as_str(), "slot 6 frame 12 instant 340");
     Ok(())
 }
