@@ -6,7 +6,6 @@ ghost use Rattle.model.specs.Machine.{outcomes, unit};
 ghost use Rattle.model.specs.Tally.{tally};
 
 use crate::machine::state::State;
-use crate::machine::state::telling::drops_after;
 use crate::machine::tally::Tally;
 use crate::rule::Rule;
 
@@ -17,14 +16,13 @@ impl State {
         ensures state { standing self.new ≡ unit (R.before rule.now) noisy (standing self.old) }
         ensures told { tally_of result ≡ tally (outcomes (R.before rule.now) noisy (standing self.old)) }
     {
+        let mut told = Tally::nothing();
         self.release();
         self.start(rule);
         self.mark(noisy);
         self.tick();
-        let arrived = self.arrival();
-        self.leave();
-        let ended = drops_after(arrived, &self.rows, self.now);
-        self.drop();
-        Tally::of(ended, self.now)
+        told.add(self.leave());
+        self.drop(&mut told);
+        told
     }
 }
