@@ -10,14 +10,13 @@ use crate::machine::row::Row;
 use firm::Outcome;
 
 impl Row {
-    // The releases of an instant: a frame waits if the period divides the instant.
+    // The releases of an instant: a frame that is released then waits.
     pub(crate) fn release(&mut self, instant: u64)
         requires { instant ≤ 2 ^ 41 }
         ensures { row_of self.new ≡ release_row instant (row_of self.old) }
     {
-        let period = u64::from(self.stream.period());
-        if instant % period == 0 {
-            self.waits = Some(instant / period + 1);
+        if self.is_released(instant) {
+            self.waits = Some(instant / u64::from(self.stream.period()) + 1);
         }
     }
 

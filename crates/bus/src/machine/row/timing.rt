@@ -1,10 +1,17 @@
-ghost use Rattle.std.specs.Prelude.{◌≡◌, ◌^◌, ◌<◌, ◌≤◌};
+ghost use Rattle.std.specs.Prelude.{◌≡◌, ◌%◌, ◌^◌, ◌≤◌, ◌==◌};
 ghost use Rattle.bus.specs.Rows.{row_of};
 ghost use Rattle.model.specs.Machine.{due, hopeless};
 
 use crate::machine::row::Row;
 
 impl Row {
+    // Whether a frame is released at an instant: the period divides it.
+    pub(super) fn is_released(&self, instant: u64) -> bool
+        ensures { result ≡ (instant % self.now.stream.period == 0) }
+    {
+        instant % u64::from(self.stream.period()) == 0
+    }
+
     // The instant at which a frame of the stream is due. Frames are counted from 1, and the first is released at 0.
     pub(super) fn due(&self, frame: u64) -> u64
         requires { frame ≤ 2 ^ 42 }

@@ -22,7 +22,7 @@ impl Row {
     pub(crate) fn waits_from(&self, instant: u64) -> bool
         ensures { result ≡ is_some (release_row instant (row_of self.now)).waits }
     {
-        self.waits.is_some() || instant % u64::from(self.stream.period()) == 0
+        self.waits.is_some() || self.is_released(instant)
     }
 
     // The waiting frame, if any, with what a rule is shown of it at an instant.

@@ -16,11 +16,11 @@ impl State {
         ensures state { standing self.new ≡ unit (R.before rule.now) noisy (standing self.old) }
         ensures told { tally_of result ≡ tally (outcomes (R.before rule.now) noisy (standing self.old)) }
     {
-        let mut told = Tally::nothing();
         self.release();
         self.start(rule);
         self.mark(noisy);
         self.tick();
+        let mut told = Tally::nothing();
         told.add(self.leave());
         self.drop(&mut told);
         told

@@ -1,4 +1,4 @@
-ghost use Rattle.std.specs.Prelude.{◌≡◌, [], Some};
+ghost use Rattle.std.specs.Prelude.{◌≡◌, ◌+◌, ◌^◌, ◌<◌, [], Some};
 ghost use Rattle.bus.specs.Endings.{AtMost, told_of};
 ghost use Rattle.bus.specs.Machines.{failure_note, tally_of};
 ghost use Rattle.bus.specs.Tallies.{together};
@@ -12,7 +12,7 @@ use firm::Outcome;
 
 impl Tally {
     // What is told of no outcome.
-    pub(crate) fn nothing() -> Tally
+    pub fn nothing() -> Tally
         ensures { tally_of result ≡ tally [] }
     {
         Tally {
@@ -23,31 +23,50 @@ impl Tally {
         }
     }
 
-    // Tells of how one more frame ended, if it did.
+    // What is told of some outcomes and then of others.
+    pub fn together(self, other: Tally) -> Tally
+        requires met { self.met + other.met < 2 ^ 64 }
+        requires missed { self.missed + other.missed < 2 ^ 64 }
+        requires failures { self.failures + other.failures < 2 ^ 64 }
+        ensures { tally_of result ≡ together (tally_of self) (tally_of other) }
+    {
+        Tally {
+            met: self.met + other.met,
+            missed: self.missed + other.missed,
+            failures: self.failures + other.failures,
+            first: soonest(self.first, other.first),
+        }
+    }
+
+    // What is told of a frame that has ended.
+    fn of(ended: Ended) -> Tally
+        ensures { tally_of result ≡ told_of (Some ended) }
+    {
+        Tally {
+            met: u64::from(ended.outcome == Outcome::Met),
+            missed: u64::from(ended.outcome == Outcome::Missed),
+            failures: u64::from(ended.failure.is_some()),
+            first: ended.failure,
+        }
+    }
+
+    // Tells of one more frame, if it has ended; a unit ends nine at most.
     pub(crate) fn add(&mut self, ended: Option<Ended>)
         requires { AtMost 9 (tally_of self.old) }
         ensures { tally_of self.new ≡ together (tally_of self.old) (told_of ended) }
     {
-        let Some(Ended { outcome, failure }) = ended else {
-            return;
-        };
-        match outcome {
-            Outcome::Met => self.met += 1,
-            Outcome::Missed => self.missed += 1,
-        }
-        if let Some(failure) = failure {
-            self.failures += 1;
-            self.first = Some(sooner(self.first, failure));
+        if let Some(ended) = ended {
+            *self = self.together(Tally::of(ended));
         }
     }
 }
 
-// The sooner of two failures, by instant and then by slot; there may be no first.
-fn sooner(first: Option<Failure>, failure: Failure) -> Failure
-    ensures { Some (failure_note result) ≡ soonest (option_map failure_note first) (Some (failure_note failure)) }
+// The sooner of two failures; either may be absent.
+fn soonest(a: Option<Failure>, b: Option<Failure>) -> Option<Failure>
+    ensures { option_map failure_note result ≡ soonest (option_map failure_note a) (option_map failure_note b) }
 {
-    match first {
-        Some(first) if (first.instant, first.slot) <= (failure.instant, failure.slot) => first,
-        _ => failure,
+    match (a, b) {
+        (Some(x), Some(y)) if y.is_sooner(&x) => b,
+        _ => a.or(b),
     }
 }
