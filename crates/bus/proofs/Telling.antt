@@ -92,9 +92,6 @@ pub record Told (u : ℕ) (rows : Rows) (before t : Tally) (i : ℕ) : Type 0 wh
   pub whole : together t (tally (drops u i (drop i rows))) ≡ together before (tally (drops u 0 rows))
 
 module _ (u : ℕ) (rows : Rows) (before t : Tally) (i : ℕ) where
-  pub told_start : AtMost 1 before → Told u rows before before 0
-  told_start few = record { few = few; whole = refl }
-
   pub told_more : (o : Option Row) (e : Option Ended) → i < length rows → o ≡ get_or rows i None → told_of e ≡ tally (dropped_in u i o)
       → Told u rows before t i → Told u rows before (together t (told_of e)) (i + 1)
   told_more o e within read one h =

@@ -18,10 +18,6 @@ use Rattle.bus.specs.declared.machine.row.Row.{Row}
 pub row_at : (rows : List (Option Row)) (i : ℕ) (d : Option Row) → i < length rows → option_map row_of (get_or rows i d) ≡ get_or (rows_of rows) i None
 row_at rows i d within = sym (get_or-map (option_map row_of) rows i d None within)
 
--- slot i was read as x
-pub row_read : (rows : List (Option Row)) (i : ℕ) (x : Option Row) → i < length rows → x ≡ get_or rows i x → option_map row_of x ≡ get_or (rows_of rows) i None
-row_read rows i x within read = ap (option_map row_of) read ∙ row_at rows i x within
-
 pub one_slot : (f : model.Row → model.Row) (rows : List (Option Row)) (i : ℕ) (d y : Option Row) → i < length rows → option_map row_of y ≡ option_map f (option_map row_of (get_or rows i d)) → rows_of (set rows i y) ≡ model.in_slot i f (rows_of rows)
 one_slot f rows i d y within change =
     map-set (option_map row_of) rows i y
@@ -51,9 +47,6 @@ pub record Done (f : model.Row → model.Row) (xs ys : List (Option Row)) (i : �
   pub done : rows_of ys ≡ map (option_map f) (take i (rows_of xs)) ++ drop i (rows_of xs)
 
 module _ (f : model.Row → model.Row) (xs ys : List (Option Row)) (i : ℕ) where
-  pub done_none : Done f xs xs 0
-  done_none = record { same = refl; done = refl }
-
   -- y is written into slot i, from what stands there
   pub done_more : (d y : Option Row) → i < length xs → option_map row_of y ≡ option_map f (option_map row_of (get_or ys i d)) → Done f xs ys i → Done f xs (set ys i y) (i + 1)
   done_more d y within change h =

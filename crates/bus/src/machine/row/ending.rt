@@ -10,7 +10,7 @@ use crate::machine::row::Row;
 use firm::Outcome;
 
 impl Row {
-    // An outcome of one of the stream's frames enters the history, and is a failure, which the note tells of, if the history does not pass then.
+    // A frame of the stream ends: its outcome enters the history, and is the failure that the note tells of if the history then does not pass.
     pub(crate) fn enter(&mut self, outcome: Outcome, note: Failure) -> Ended
         ensures row { row_of self.new ≡ model.with_outcome (is_met outcome) (row_of self.old) }
         ensures told { told_of (Some result) ≡ tally (model.outcome note.instant note.slot note.frame (is_met outcome) (row_of self.old) ∷ []) }

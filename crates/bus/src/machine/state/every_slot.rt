@@ -35,7 +35,7 @@ impl State {
         }
     }
 
-    // Step 6: each waiting frame that can no longer be sent in time is dropped and has missed. This is told too.
+    // Step 6: each waiting frame that can no longer be sent in time is dropped and has missed, which is told.
     pub(crate) fn drop(&mut self, told: &mut Tally)
         requires { AtMost 1 (tally_of told.old) }
         ensures state { standing self.new ≡ drop (standing self.old) }
