@@ -1,21 +1,29 @@
 use crate::bottoms::{Higher, Lower};
 use crate::keys::{Distance, Period, Restoring, SlotRank, TimeLeft};
 use crate::layers::{Key, Layer};
-use crate::named::{Deh, Del, Dml, Drel, El, Ml, Named};
+use crate::named::{Deh, Del, Dml, Drel, El, Ml};
 use crate::tests::{FIRST, LATEST, NONE, OLDEST, ONE, SECOND, TIE, TIE_BACK};
 use crate::{Failure, Machine, Rule, first_failure};
 use std::process::Abort;
 use std::test::Fail;
-use streams::{Stream, Table};
+use streams::{Numbers, Stream, Table};
 
 // A stream of service time 1 that needs 2 of 4, by its slot, period, deadline and history. At instant 0 its deadline is the time left.
-type Numbers = (u64, u64, u64, u64);
+type Placed = (u64, u64, u64, u64);
 
 // Whether the first of two streams is sent before the second in a quiet unit from the start: then an outcome has entered its history.
-fn is_sent_first<R: Rule>(rt: &impl Abort, rule: &R, pair: [Numbers; 2]) -> Result<bool, Fail> {
+fn is_sent_first<R: Rule>(rt: &impl Abort, rule: &R, pair: [Placed; 2]) -> Result<bool, Fail> {
     let mut table = Table::empty();
     for (slot, period, deadline, history) in pair {
-        table = table.with(slot, Stream::new(period, deadline, 1, 2, 4, history)?)?;
+        let stream = Stream::new(Numbers {
+            period,
+            deadline,
+            service: 1,
+            m: 2,
+            k: 4,
+            history,
+        })?;
+        table = table.with(slot, stream)?;
     }
     let mut machine = Machine::start(&table);
     assert_eq!(rt; machine.unit(rule, false)?.met, 1);
@@ -30,15 +38,15 @@ fn is_sent_first<R: Rule>(rt: &impl Abort, rule: &R, pair: [Numbers; 2]) -> Resu
 fn over_bottoms<K: Key + Copy>(
     rt: &impl Abort,
     key: K,
-    pair: [Numbers; 2],
+    pair: [Placed; 2],
 ) -> Result<[bool; 2], Fail> {
     Ok([
         is_sent_first(rt, &Layer::over(key, Lower), pair)?,
-        is_sent_first(rt, &Layer::over(key, Higher), pair)?,
+        is_sent_first(rt, &Layer::over(key, Higher::default()), pair)?,
     ])
 }
 
-fn by_layers(rt: &impl Abort, pair: [Numbers; 2]) -> Result<[[bool; 2]; 5], Fail> {
+fn by_layers(rt: &impl Abort, pair: [Placed; 2]) -> Result<[[bool; 2]; 5], Fail> {
     Ok([
         over_bottoms(rt, Distance, pair)?,
         over_bottoms(rt, Restoring, pair)?,
@@ -48,14 +56,14 @@ fn by_layers(rt: &impl Abort, pair: [Numbers; 2]) -> Result<[[bool; 2]; 5], Fail
     ])
 }
 
-fn by_named(rt: &impl Abort, pair: [Numbers; 2]) -> Result<[bool; 6], Fail> {
+fn by_named(rt: &impl Abort, pair: [Placed; 2]) -> Result<[bool; 6], Fail> {
     Ok([
-        is_sent_first(rt, &Del::new(), pair)?,
-        is_sent_first(rt, &Deh::new(), pair)?,
-        is_sent_first(rt, &Dml::new(), pair)?,
-        is_sent_first(rt, &Drel::new(), pair)?,
-        is_sent_first(rt, &El::new(), pair)?,
-        is_sent_first(rt, &Ml::new(), pair)?,
+        is_sent_first(rt, &Del::default(), pair)?,
+        is_sent_first(rt, &Deh::default(), pair)?,
+        is_sent_first(rt, &Dml::default(), pair)?,
+        is_sent_first(rt, &Drel::default(), pair)?,
+        is_sent_first(rt, &El::default(), pair)?,
+        is_sent_first(rt, &Ml::default(), pair)?,
     ])
 }
 
@@ -106,9 +114,39 @@ fn pairs(rt: HostRuntime) -> Result<(), Fail> {
 #[test]
 fn twelve_units(rt: HostRuntime) -> Result<(), Fail> {
     let table = Table::empty()
-        .with(1, Stream::new(4, 4, 3, 1, 2, 0b11)?)?
-        .with(4, Stream::new(2, 2, 1, 1, 2, 0b11)?)?
-        .with(6, Stream::new(4, 3, 2, 1, 3, 0b001)?)?;
+        .with(
+            1,
+            Stream::new(Numbers {
+                period: 4,
+                deadline: 4,
+                service: 3,
+                m: 1,
+                k: 2,
+                history: 0b11,
+            })?,
+        )?
+        .with(
+            4,
+            Stream::new(Numbers {
+                period: 2,
+                deadline: 2,
+                service: 1,
+                m: 1,
+                k: 2,
+                history: 0b11,
+            })?,
+        )?
+        .with(
+            6,
+            Stream::new(Numbers {
+                period: 4,
+                deadline: 3,
+                service: 2,
+                m: 1,
+                k: 3,
+                history: 0b001,
+            })?,
+        )?;
     let mut machine = Machine::start(&table);
     let told = [
         (1, 0, 0),
@@ -125,7 +163,7 @@ fn twelve_units(rt: HostRuntime) -> Result<(), Fail> {
         (0, 0, 0),
     ];
     for (i, wanted) in told.iter().enumerate() {
-        let tally = machine.unit(&Del::new(), i == 5)?;
+        let tally = machine.unit(&Del::default(), i == 5)?;
         assert_eq!(rt; (tally.met, tally.missed, tally.failures), *wanted);
         if let Some(first) = tally.first {
             assert_eq!(rt; (first.slot, first.frame, first.instant), (1, 3, 10));
