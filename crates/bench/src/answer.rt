@@ -1,6 +1,8 @@
-ghost use Rattle.std.specs.Prelude.{Some};
+ghost use Rattle.std.specs.Prelude.{◌≡◌, Some};
+ghost use Rattle.bench.specs.Searches.{forecast_of};
 ghost use Rattle.bench.specs.Texts.{forecast_text};
 
+use crate::search::round::Round;
 use bus::Failure;
 use std::fmt;
 
@@ -26,6 +28,18 @@ impl fmt::Display for Forecast {
                 } = failure;
                 write!(f, "fails slot {slot} frame {frame} instant {instant}")
             }
+        }
+    }
+}
+
+impl From<Result<Round, Failure>> for Forecast {
+    ghost from_gives = { λ found forecast. forecast ≡ forecast_of found };
+
+    // What is foretold by the round or the failure that a search finds.
+    fn from(found: Result<Round, Failure>) -> Forecast {
+        match found {
+            Ok(Round { from, to }) => Forecast::Holds { from, to },
+            Err(failure) => Forecast::Fails(failure),
         }
     }
 }

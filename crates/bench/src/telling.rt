@@ -33,14 +33,13 @@ pub(crate) fn together(a: Tally, b: Tally) -> Tally
     }
 }
 
-// The sooner of two failures, by instant and then by slot; either may be absent.
+// The sooner of two failures; either may be absent.
 fn soonest(a: Option<Failure>, b: Option<Failure>) -> Option<Failure>
     ensures { option_map failure_note result ≡ soonest (option_map failure_note a) (option_map failure_note b) }
 {
     match (a, b) {
         (Some(x), Some(y)) if is_sooner(&y, &x) => b,
-        (None, _) => b,
-        _ => a,
+        _ => a.or(b),
     }
 }
 
@@ -48,5 +47,5 @@ fn soonest(a: Option<Failure>, b: Option<Failure>) -> Option<Failure>
 fn is_sooner(a: &Failure, b: &Failure) -> bool
     ensures { result ≡ sooner (failure_note a.now) (failure_note b.now) }
 {
-    a.instant < b.instant || a.instant == b.instant && a.slot < b.slot
+    (a.instant, a.slot) < (b.instant, b.slot)
 }
