@@ -13,7 +13,7 @@ use Rattle.model.proofs.Tallies.{how_many_append, how_many_not, first_failure_ap
 use Rattle.promise.proofs.Runs.{run_quiet}
 use Rattle.bus.specs.Machines as one
 use Rattle.bus.specs.Machines.{at_limit}
-use Rattle.bench.specs.Tallies.{together}
+use Rattle.bus.specs.Tallies.{together}
 use Rattle.bench.proofs.Stretches.{figures_by}
 use Rattle.bench.proofs.Quiet.{quiet_now, quiet_few}
 

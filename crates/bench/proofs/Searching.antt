@@ -10,13 +10,26 @@ use Rattle.laws.specs.Sound.{Sound}
 use Rattle.promise.specs.Answers.{Walked, Returns}
 use Rattle.promise.proofs.Search.{At, Hunting, Closing, boundary_now, at_first, at_later, at_next, at_histories, at_fails, hunt_first, hunt_found, hunt_on, hunt_anew, close_first, close_found, close_on}
 use Rattle.promise.proofs.Found.{found_holds}
+use Rattle.laws.proofs.Held.{held_sound}
+use Rattle.bus.specs.Machines.{state_of}
+use Rattle.bus.specs.declared.machine.Machine.{Machine}
 use Rattle.bench.specs.Searches.{Searchable, machine_limit}
 
 -- a turn of the first search: the histories of boundary i are kept, and the walker stands one boundary before boundary to
 abbrev pub Turn : (Ready → Ready → Bool) → State → ℕ → ℕ → State → State → Type 0
 Turn before x i to kept walker = (n : ℕ) × (i + (n + 1) ≡ to) × Hunting before x i n kept walker
 
-module _ (before : Ready → Ready → Bool) (x : State) (h : Sound x) (period : ℕ) (from : Searchable x period) where
+-- a machine that can be searched from, with its hyper-period
+module _ (before : Ready → Ready → Bool) (m : Machine) (asked : ℕ) (searchable : Searchable (state_of m) asked) (period : ℕ) (same : period ≡ asked) where
+  abbrev x : State
+  x = state_of m
+
+  h : Sound x
+  h = held_sound x m.sound
+
+  from : Searchable x period
+  from = subst (Searchable x) (sym same) searchable
+
   -- how far a walker may go on
   at_room : (i m : ℕ) (w : State) → At before x i w → i + m ≤ 3 * histories (table_of x) → w.now + m * period ≤ machine_limit
   at_room i m w a soon =
@@ -32,6 +45,10 @@ module _ (before : Ready → Ready → Bool) (x : State) (h : Sound x) (period :
 
   pub at_on : (i : ℕ) (w v : State) → At before x i w → Walked before w period v → At before x (i + 1) v
   at_on i w v a b = at_next before x h from.on i w v a (subst (λ n. Walked before w n v) from.is b)
+
+  -- a failure on the way is the first from here
+  pub walk_fails : (i : ℕ) (w : State) → At before x i w → (f : Failure) → Fails before w f → Fails before x f
+  walk_fails i w a f there = at_fails before x h from.on i w f a there
 
   pub first_room : (n : ℕ) → n ≤ 3 * histories (table_of x) → x.now + n * period ≤ machine_limit
   first_room n soon = at_room 0 n x (at_first before x h from.on) (omega arith)
@@ -53,7 +70,7 @@ module _ (before : Ready → Ready → Bool) (x : State) (h : Sound x) (period :
     turn_room = walk_room (i + turn.0) walker turn.2.there (omega (arith, turn.2.short))
 
     pub turn_fails : (f : Failure) → Fails before walker f → Fails before x f
-    turn_fails f there = at_fails before x h from.on (i + turn.0) walker f turn.2.there there
+    turn_fails = walk_fails (i + turn.0) walker turn.2.there
 
     module _ (v : State) (walked : Walked before walker period v) where
       reached : At before x (i + (turn.0 + 1)) v
@@ -85,9 +102,9 @@ module _ (before : Ready → Ready → Bool) (x : State) (h : Sound x) (period :
     pair_found e = found_holds before x h i j n close.returns (close_found before x h from.on i n j near far close e)
 
     pub pair_last : j ≡ i → Holds before x i (i + n)
-    pair_last same = subst (λ k. Holds before x k (k + n)) same (pair_found (
+    pair_last all = subst (λ k. Holds before x k (k + n)) all (pair_found (
         at_histories before x h from.on j near close.here
-        ∙ subst (λ k. at_boundary before x k ≡ at_boundary before x (k + n)) (sym same) close.returns.again
+        ∙ subst (λ k. at_boundary before x k ≡ at_boundary before x (k + n)) (sym all) close.returns.again
         ∙ sym (at_histories before x h from.on (j + n) far close.there)))
 
     pub pair_on : (histories_of near ≡ histories_of far → ⊥) → (near' far' : State) → Walked before near period near' → Walked before far period far' → Closing before x i n (j + 1) near' far'

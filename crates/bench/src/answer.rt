@@ -8,6 +8,7 @@ use std::fmt;
 
 // What is foretold of the quiet schedule: it never fails, and all histories agree at boundaries `from` and `to` and at no other two
 // up to `to`; or its first dynamic failure.
+// An enum of its own and not a `Result`: a schedule that fails is an answer and no error.
 #[derive(Clone, Copy)]
 pub enum Forecast {
     Holds { from: u64, to: u64 },
@@ -20,14 +21,7 @@ impl fmt::Display for Forecast {
     fn fmt<W: fmt::Write>(&self, f: &mut fmt::Formatter<W>) -> fmt::Result {
         match self {
             Forecast::Holds { from, to } => write!(f, "holds {from} {to}"),
-            Forecast::Fails(failure) => {
-                let Failure {
-                    slot,
-                    frame,
-                    instant,
-                } = failure;
-                write!(f, "fails slot {slot} frame {frame} instant {instant}")
-            }
+            Forecast::Fails(failure) => write!(f, "fails {failure}"),
         }
     }
 }

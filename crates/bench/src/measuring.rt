@@ -6,21 +6,21 @@ ghost use Rattle.model.specs.Figures.{figures_over};
 
 use crate::figures::Figures;
 use crate::running::Running;
-use crate::telling::{nothing, together};
-use bus::{Machine, Rule};
+use bus::{Machine, Rule, Tally};
 
 impl<R: Rule> Running<R> {
     // The figures of the next quiet units of a bus, none of which passes the last instant of the machine.
+    // A loop and not a chain: the bus changes with each unit, and is asked before each whether it will be busy.
     pub(crate) fn figures_over(&self, mut bus: Machine, units: u64) -> Figures
         requires some { 0 < units }
         requires early { (state_of bus).now + units ≤ machine_limit }
         ensures { figures_of result ≡ figures_over (R.before self.now.rule) (state_of bus) 0 units }
     {
         let mut busy = 0;
-        let mut told = nothing();
+        let mut told = Tally::nothing();
         for _ in 0..units {
             busy += u64::from(bus.is_busy_next());
-            told = together(told, self.quiet_unit(&mut bus));
+            told = told.together(self.quiet_unit(&mut bus));
         }
         Figures {
             length: units,

@@ -5,7 +5,6 @@ ghost use Rattle.model.specs.Bench.{advanced, disturbed, last_instant, state_aft
 ghost use Rattle.refusal.specs.Tests.{kept, on_ok};
 
 use crate::running::Running;
-use crate::telling::{nothing, together};
 use bus::{Machine, Rule, Tally};
 use refusal::Refusal;
 
@@ -49,15 +48,16 @@ impl<R: Rule> Running<R> {
     }
 
     // Works quiet units of a bus, none of which passes the last instant, and tells of their outcomes.
+    // A loop of its own: a walk ends at the first failure and adds nothing up.
     fn quiet_units(&self, bus: &mut Machine, units: u64) -> Tally
         requires few { units ≤ 65535 }
         requires early { (state_of bus.old).now + units ≤ last_instant }
         ensures told { tally_of result ≡ (worked (R.before self.now.rule) (state_of bus.old) (replicate units false)).told }
         ensures state { state_of bus.new ≡ (worked (R.before self.now.rule) (state_of bus.old) (replicate units false)).state }
     {
-        let mut told = nothing();
+        let mut told = Tally::nothing();
         for _ in 0..units {
-            told = together(told, self.quiet_unit(bus));
+            told = told.together(self.quiet_unit(bus));
         }
         told
     }

@@ -13,7 +13,7 @@ use bus::{Failure, Machine, Rule};
 
 impl<R: Rule> Running<R> {
     // The earliest round that is as long as one that is known, from a bus at a boundary: two walkers that far apart go on until their
-    // histories agree.
+    // histories agree. A loop and not a chain: both go on with each boundary, and the first failure ends it.
     pub(crate) fn earliest_round(&self, first: Machine, known: Round) -> Result<Round, Failure>
         requires state { Searchable (state_of first) (hyper_period (streams_of self.now.table)) }
         requires returns { Returns (R.before self.now.rule) (state_of first) known.from (known.to - known.from) }

@@ -14,6 +14,7 @@ const LAST_BOUNDARY: u64 = 3145728;
 impl<R: Rule> Running<R> {
     // A round of the least length, from a bus at a boundary: the histories of one boundary are kept and compared with those of the
     // boundaries after it, twice as many each time. It ends at the first failure.
+    // A loop and not a chain: the walker goes on with each boundary.
     pub(crate) fn round(&self, first: Machine) -> Result<Round, Failure>
         requires { Searchable (state_of first) (hyper_period (streams_of self.now.table)) }
         ensures { RoundFound (R.before self.now.rule) (state_of first) result }

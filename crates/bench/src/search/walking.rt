@@ -18,6 +18,7 @@ impl<R: Rule> Running<R> {
     }
 
     // Works quiet units of a bus, up to the first that fails: gives its first failure.
+    // A loop and not a chain: the bus changes with each unit.
     pub(crate) fn walk(&self, bus: &mut Machine, units: u64) -> Result<(), Failure>
         requires { (state_of bus.old).now + units ≤ machine_limit }
         ensures { Walks (R.before self.now.rule) (state_of bus.old) units (state_of bus.new) result }

@@ -3,7 +3,7 @@ use mir.Val.{bool_byte}
 use Rattle.std.proofs.lemmas.List.{length-map}
 use Rattle.model.specs.Figures.{busy_units}
 use Rattle.bus.specs.Machines.{state_of, tally_of}
-use Rattle.bench.specs.Tallies.{together}
+use Rattle.bus.specs.Tallies.{together}
 use Rattle.bench.proofs.Advancing.{Led, led_none, led_few, led_next, led_early, busy_more, figures_led}
 use Rattle.bench.proofs.Stretches.{busy_units_few}
 use Rattle.bench.proofs.running.Running.figures_over.Given as given

@@ -1,7 +1,7 @@
 use Rattle.std.proofs.Common.{◌≡◌, ◌+◌, length, ◌∙◌, sym, subst, arith}
 use Rattle.std.proofs.lemmas.List.{length-map}
 use Rattle.bus.specs.Machines.{state_of, tally_of}
-use Rattle.bench.specs.Tallies.{together}
+use Rattle.bus.specs.Tallies.{together}
 use Rattle.bench.proofs.Advancing.{Led, led_none, led_few, led_next, led_early}
 use Rattle.bench.proofs.running.Running.quiet_units.Given as given
 use Rattle.bench.proofs.running.Running.quiet_units.Goals as goal
