@@ -1,0 +1,7 @@
+// Many inputs in one run: each line that is read is one whole input in hexadecimal, and its answer is written.
+#![tactic(auto)]
+
+mod answering;
+mod decoding;
+
+pub use answering::answer_all;
