@@ -10,8 +10,8 @@ use std::alloc::{AllocError, Global};
 pub(crate) fn decoded(heap: Global, line: &[u8]) -> anyhow::Result<Vec<u8>>
     ensures { IfOk result (λ input. decode_of line.now ≡ Ok input.items) }
 {
-    Ok(hex::decode(heap, line).map_err(|error| match error {
-        FromHexError::OutOfMemory => anyhow::Error::from(AllocError),
+    hex::decode(heap, line).map_err(|error| match error {
+        FromHexError::OutOfMemory => AllocError.into(),
         _ => anyhow!("a line is not in hexadecimal"),
-    })?)
+    })
 }

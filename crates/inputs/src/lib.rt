@@ -3,5 +3,7 @@
 
 mod answering;
 mod decoding;
+#[cfg(test)]
+mod tests;
 
 pub use answering::answer_all;
