@@ -2,7 +2,6 @@
 use Rattle.std.proofs.Common.{◌≡◌, ℕ, ◌<◌, List, [], ◌++◌, length, Some, None, Ok, Option, Result, IfSome, refl, sym, ap, ◌∙◌, subst}
 use Rattle.std.proofs.lemmas.List.{append-nil, append_assoc}
 use Rattle.std.specs.Io.BufRead.{first_line, drop_through, DropsThrough}
-
 use Rattle.std.specs.Io.KnownBytes.{Appends, IsAtEnd}
 use Rattle.hex.specs.Hex.{decode_of}
 use Rattle.inputs.specs.Answers.{Answers, Answered}
@@ -40,7 +39,8 @@ module _ (Is : List ℕ → List ℕ → Type 0) where
         so_far = r.so_far ++ text;
         reads = d;
         holds = grown held r.so_far contents' a;
-        ends_in = λ rest h. subst (Answers Is lines) (sym (append_assoc r.so_far text rest)) (r.ends_in (text ++ rest) (line p.0 (ap decode_of (sym p.1) ∙ spells) is h)) }
+        ends_in = λ rest h. subst (Answers Is lines) (sym (append_assoc r.so_far text rest)) (r.ends_in (text ++ rest) (line p.0 (ap decode_of (sym p.1) ∙ spells) is h));
+      }
     where
       grown : (held so_far : List ℕ) (c : Option (List ℕ)) → Appends (Some (held ++ so_far)) c text → c ≡ Some (held ++ (so_far ++ text))
       grown held so_far None a = absurd a

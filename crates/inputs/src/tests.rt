@@ -11,7 +11,7 @@ fn answers_in_order(rt: HostRuntime) -> Result<(), Fail> {
         let len = input.len();
         format!(in heap; "{len};")
     })?;
-    assert_eq!(rt; told.as_slice(), b"2;0;1;");
+    assert_eq!(rt; told.as_slice(), b"2;0;1;".as_slice());
     Ok(())
 }
 
