@@ -5,16 +5,24 @@ use crate::named::{Deh, Del, Dml, Drel, El, Ml, Named};
 use crate::{Failure, Machine, Rule, first_failure};
 use std::process::Abort;
 use std::test::Fail;
-use streams::{Stream, Table};
+use streams::{Numbers, Stream, Table};
 
 // A stream of service time 1 that needs 2 of 4, by its slot, period, deadline and history. At instant 0 its deadline is the time left.
-type Numbers = (u64, u64, u64, u64);
+type Placed = (u64, u64, u64, u64);
 
 // Whether the first of two streams is sent before the second in a quiet unit from the start: then an outcome has entered its history.
-fn is_sent_first<R: Rule>(rt: &impl Abort, rule: &R, pair: [Numbers; 2]) -> Result<bool, Fail> {
+fn is_sent_first<R: Rule>(rt: &impl Abort, rule: &R, pair: [Placed; 2]) -> Result<bool, Fail> {
     let mut table = Table::empty();
     for (slot, period, deadline, history) in pair {
-        table = table.with(slot, Stream::new(period, deadline, 1, 2, 4, history)?)?;
+        let stream = Stream::new(Numbers {
+            period,
+            deadline,
+            service: 1,
+            m: 2,
+            k: 4,
+            history,
+        })?;
+        table = table.with(slot, stream)?;
     }
     let mut machine = Machine::start(&table);
     assert_eq!(rt; machine.unit(rule, false)?.met, 1);
@@ -29,7 +37,7 @@ fn is_sent_first<R: Rule>(rt: &impl Abort, rule: &R, pair: [Numbers; 2]) -> Resu
 fn over_bottoms<K: Key + Copy>(
     rt: &impl Abort,
     key: K,
-    pair: [Numbers; 2],
+    pair: [Placed; 2],
 ) -> Result<[bool; 2], Fail> {
     Ok([
         is_sent_first(rt, &Layer::over(key, Lower), pair)?,
@@ -37,7 +45,7 @@ fn over_bottoms<K: Key + Copy>(
     ])
 }
 
-fn by_layers(rt: &impl Abort, pair: [Numbers; 2]) -> Result<[[bool; 2]; 5], Fail> {
+fn by_layers(rt: &impl Abort, pair: [Placed; 2]) -> Result<[[bool; 2]; 5], Fail> {
     Ok([
         over_bottoms(rt, Distance, pair)?,
         over_bottoms(rt, Restoring, pair)?,
@@ -47,7 +55,7 @@ fn by_layers(rt: &impl Abort, pair: [Numbers; 2]) -> Result<[[bool; 2]; 5], Fail
     ])
 }
 
-fn by_named(rt: &impl Abort, pair: [Numbers; 2]) -> Result<[bool; 6], Fail> {
+fn by_named(rt: &impl Abort, pair: [Placed; 2]) -> Result<[bool; 6], Fail> {
     Ok([
         is_sent_first(rt, &Del::new(), pair)?,
         is_sent_first(rt, &Deh::new(), pair)?,
@@ -122,9 +130,39 @@ fn pairs(rt: HostRuntime) -> Result<(), Fail> {
 #[test]
 fn twelve_units(rt: HostRuntime) -> Result<(), Fail> {
     let table = Table::empty()
-        .with(1, Stream::new(4, 4, 3, 1, 2, 0b11)?)?
-        .with(4, Stream::new(2, 2, 1, 1, 2, 0b11)?)?
-        .with(6, Stream::new(4, 3, 2, 1, 3, 0b001)?)?;
+        .with(
+            1,
+            Stream::new(Numbers {
+                period: 4,
+                deadline: 4,
+                service: 3,
+                m: 1,
+                k: 2,
+                history: 0b11,
+            })?,
+        )?
+        .with(
+            4,
+            Stream::new(Numbers {
+                period: 2,
+                deadline: 2,
+                service: 1,
+                m: 1,
+                k: 2,
+                history: 0b11,
+            })?,
+        )?
+        .with(
+            6,
+            Stream::new(Numbers {
+                period: 4,
+                deadline: 3,
+                service: 2,
+                m: 1,
+                k: 3,
+                history: 0b001,
+            })?,
+        )?;
     let mut machine = Machine::start(&table);
     let told = [
         (1, 0, 0),

@@ -7,12 +7,19 @@ use crate::named::*;
 use crate::ready::ReadyFrame;
 use crate::rule::Rule;
 use std::test::Fail;
-use streams::Stream;
+use streams::{Numbers, Stream};
 
 // The waiting frame of a stream that needs 2 of 4, of service time 1 and due within its period,
 // by its slot, period, time left and history.
 fn ready((slot, period, left, history): (u8, u64, u16, u64)) -> Result<ReadyFrame, Fail> {
-    let stream = Stream::new(period, period, 1, 2, 4, history)?;
+    let stream = Stream::new(Numbers {
+        period,
+        deadline: period,
+        service: 1,
+        m: 2,
+        k: 4,
+        history,
+    })?;
     if slot > 7 || left < stream.service() || left > stream.deadline() {
         return Err(Fail::new("no waiting frame"));
     }

@@ -1,11 +1,18 @@
-use crate::{Stream, Table};
+use crate::{Numbers, Stream, Table};
 use refusal::Refusal;
 
 // Streams of period T that need m of k outcomes, in the slots from 0 on.
 fn laid(streams: &[(u64, u64, u64)]) -> Result<Table, Refusal> {
     let mut table = Table::empty();
     for (slot, (period, m, k)) in streams.iter().enumerate() {
-        let stream = Stream::new(*period, *period, 1, *m, *k, 0)?;
+        let stream = Stream::new(Numbers {
+            period: *period,
+            deadline: *period,
+            service: 1,
+            m: *m,
+            k: *k,
+            history: 0,
+        })?;
         table = table.with(slot as u64, stream)?;
     }
     Ok(table)

@@ -2,16 +2,7 @@
 ghost use Rattle.std.specs.Prelude.{◌≡◌, ◌+◌, ◌-◌, ◌*◌, ◌^◌, ◌<◌, ◌≤◌, true, length, drop, if◌then◌else◌, slice_index};
 ghost use Rattle.model.specs.Fields.{stands, extent, period, service, deadline, window, required, history};
 
-// The six numbers of a record, not yet tested.
-#[derive(Drop)]
-pub struct Numbers {
-    pub t: u64,
-    pub c: u64,
-    pub d: u64,
-    pub k: u64,
-    pub m: u64,
-    pub h: u64,
-}
+use streams::Numbers;
 
 // Whether a bit of a map stands.
 pub(crate) fn has(map: u8, bit: u8) -> bool
@@ -72,12 +63,12 @@ fn all_met(k: u64) -> u64
 // The six numbers of a record, where the record before it has the period `before`.
 pub(crate) fn spelled(bytes: &[u8], before: u64) -> Numbers
     requires { length bytes.now ≡ extent (slice_index bytes.now 0) }
-    ensures t { result.t ≡ period before bytes.now }
-    ensures c { result.c ≡ service bytes.now }
-    ensures d { result.d ≡ deadline before bytes.now }
+    ensures period { result.period ≡ period before bytes.now }
+    ensures service { result.service ≡ service bytes.now }
+    ensures deadline { result.deadline ≡ deadline before bytes.now }
     ensures k { result.k ≡ window bytes.now }
     ensures m { result.m ≡ required bytes.now }
-    ensures h { result.k < 64 → result.h ≡ history bytes.now }
+    ensures history { result.k < 64 → result.history ≡ history bytes.now }
 {
     match bytes {
         [map, rest @ ..] => {
@@ -87,7 +78,14 @@ pub(crate) fn spelled(bytes: &[u8], before: u64) -> Numbers
             let (k, rest) = one_byte(has(*map, 3), rest, 1);
             let (m, rest) = one_byte(has(*map, 4), rest, k);
             let (h, _) = two_bytes(has(*map, 5), rest, all_met(k));
-            Numbers { t, c, d, k, m, h }
+            Numbers {
+                period: t,
+                deadline: d,
+                service: c,
+                m,
+                k,
+                history: h,
+            }
         }
         [] => unreachable(),
     }

@@ -8,7 +8,7 @@ ghost use Rattle.model.specs.Layout.{judged};
 use crate::laid::Laid;
 use bus::Rule;
 use refusal::{Fault, Refusal};
-use streams::{Stream, Table};
+use streams::{Numbers, Stream, Table};
 
 impl<R: Rule> Laid<R> {
     // The bench over a rule, with every slot empty.
@@ -41,7 +41,14 @@ impl<R: Rule> Laid<R> {
         if slot > 7 {
             return Err(Refusal::SlotRange);
         }
-        let stream = Stream::new(period, deadline, service, m, k, history)?;
+        let stream = Stream::new(Numbers {
+            period,
+            deadline,
+            service,
+            m,
+            k,
+            history,
+        })?;
         self.table = self.table.with(slot, stream)?;
         Ok(())
     }

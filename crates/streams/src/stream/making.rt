@@ -3,6 +3,7 @@ ghost use Rattle.model.specs.Streams.{stream};
 ghost use Rattle.refusal.specs.Tests.{on_ok};
 ghost use Rattle.streams.specs.Stands.{stream_of};
 
+use crate::numbers::Numbers;
 use crate::stream::Stream;
 use firm::History;
 use refusal::Refusal;
@@ -10,16 +11,17 @@ use refusal::Refusal;
 impl Stream {
     // A stream by its numbers, or the first refusal: the period outside 1 to 4,096, the deadline outside 1 to the period,
     // the service time outside 1 to the deadline, then the tests of a history.
-    pub fn new(
-        period: u64,
-        deadline: u64,
-        service: u64,
-        m: u64,
-        k: u64,
-        history: u64,
-    ) -> Result<Stream, Refusal>
-        ensures { on_ok stream_of result ≡ stream period deadline service m k history }
+    pub fn new(numbers: Numbers) -> Result<Stream, Refusal>
+        ensures { on_ok stream_of result ≡ stream numbers.period numbers.deadline numbers.service numbers.m numbers.k numbers.history }
     {
+        let Numbers {
+            period,
+            deadline,
+            service,
+            m,
+            k,
+            history,
+        } = numbers;
         if period < 1 || period > 4096 {
             return Err(Refusal::PeriodRange);
         }

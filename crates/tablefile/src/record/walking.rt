@@ -18,8 +18,7 @@ fn stream_in(bytes: &[u8], before: u64) -> Result<Stream, Refusal>
     requires { length bytes.now ≡ extent (slice_index bytes.now 0) }
     ensures { on_ok stream_of result ≡ spells before bytes.now }
 {
-    let n = spelled(bytes, before);
-    Stream::new(n.t, n.d, n.c, n.m, n.k, n.h)
+    Stream::new(spelled(bytes, before))
 }
 
 impl<'a> Reader<'a> {

@@ -57,12 +57,12 @@ returns c =
     let t = reads r 0 2 _ _ _ _ refl (at_t r) c.has.ensures c.two_bytes-t.ensures.value in
     let k = reads r 3 1 _ _ _ _ refl (at_k now.After-two_bytes-d) c.has-in-len1-up-3.ensures c.one_byte-k.ensures.value in
     record {
-      t = t;
-      c = reads r 1 2 _ _ _ _ refl (at_c now.After-two_bytes-t) c.has-in-len1-up.ensures c.two_bytes-c.ensures.value;
-      d = reads r 2 2 _ _ _ _ refl (at_d now.After-two_bytes-c) c.has-in-len1-up-2.ensures c.two_bytes-d.ensures.value ∙ ap (value r 2) t;
+      period = t;
+      service = reads r 1 2 _ _ _ _ refl (at_c now.After-two_bytes-t) c.has-in-len1-up.ensures c.two_bytes-c.ensures.value;
+      deadline = reads r 2 2 _ _ _ _ refl (at_d now.After-two_bytes-c) c.has-in-len1-up-2.ensures c.two_bytes-d.ensures.value ∙ ap (value r 2) t;
       k = k;
       m = reads r 4 1 _ _ _ _ refl (at_m now.After-one_byte-k) c.has-in-len1-up-4.ensures c.one_byte-m.ensures.value ∙ ap (value r 4) k;
-      h = λ small.
+      history = λ small.
           reads r 5 2 _ _ _ _ refl (at_h now.After-one_byte-m) c.has-in-len1-up-5.ensures c.two_bytes-h.ensures.value
           ∙ ap (value r 5) (c.all_met.ensures small ∙ ap (λ n. 2 ^ n - 1) k);
     }

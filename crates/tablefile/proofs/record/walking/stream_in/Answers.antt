@@ -6,5 +6,5 @@ use Rattle.tablefile.proofs.record.walking.stream_in.Goals as goal
 pub returns : goal.returns
 unfolding spells
 returns c =
-    let n = c.spelled-n.ensures in
-    c.new.ensures ∙ stream_same _ _ _ _ _ _ _ _ _ _ _ _ n.t n.d n.c n.m n.k n.h
+    let n = c.spelled.ensures in
+    c.new.ensures ∙ stream_same _ _ _ _ _ _ _ _ _ _ _ _ n.period n.deadline n.service n.m n.k n.history
