@@ -11,6 +11,7 @@ pub mod machine;
 #[cfg(test)]
 mod machine_tests;
 pub mod named;
+pub mod ranking;
 pub mod ready;
 pub mod rule;
 pub mod showing;
@@ -26,5 +27,6 @@ pub use layers::{Key, Layer};
 pub use machine::Machine;
 pub use machine::tally::Tally;
 pub use named::{Deh, Del, Dml, Drel, El, Ml, Named};
+pub use ranking::Ranking;
 pub use ready::ReadyFrame;
 pub use rule::Rule;

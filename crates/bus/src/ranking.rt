@@ -1,0 +1,80 @@
+// The ranking rules that have a word; its letters name a rule's keys from the first to the last.
+ghost use Rattle.std.specs.Prelude.{◌≡◌};
+ghost use Rattle.std.specs.Str.{bytes_eq};
+ghost use Rattle.bus.specs.Orders.{orders};
+ghost use Rattle.bus.specs.Rankings.{meaning, named, word};
+
+use crate::named::{Deh, Del, Dml, Drel, El, Ml, Named};
+use crate::ready::ReadyFrame;
+use crate::rule::Rule;
+
+#[derive(Clone, Copy, Debug, PartialEq, Eq)]
+pub enum Ranking {
+    Del,
+    Deh,
+    Dml,
+    Drel,
+    El,
+    Ml,
+}
+
+impl Ranking {
+    pub const ALL: [Ranking; 6] = [
+        Ranking::Del,
+        Ranking::Deh,
+        Ranking::Dml,
+        Ranking::Drel,
+        Ranking::El,
+        Ranking::Ml,
+    ];
+
+    // Its word.
+    pub fn word(self) -> &'static str
+        ensures { result.now ≡ word self }
+    {
+        match self {
+            Ranking::Del => "DEL",
+            Ranking::Deh => "DEH",
+            Ranking::Dml => "DML",
+            Ranking::Drel => "DREL",
+            Ranking::El => "EL",
+            Ranking::Ml => "ML",
+        }
+    }
+
+    // Whether it has these bytes for its word.
+    fn has_word(self, bytes: &[u8]) -> bool
+        ensures { result ≡ bytes_eq bytes.now (word self) }
+    {
+        bytes == self.word().as_bytes()
+    }
+
+    // The ranking rule that has these bytes for its word, if any.
+    pub fn named(bytes: &[u8]) -> Option<Ranking>
+        ensures { result ≡ named bytes.now }
+    {
+        Ranking::ALL
+            .iter()
+            .copied()
+            .find(|rule| rule.has_word(bytes))
+    }
+}
+
+impl Rule for Ranking {
+    ghost before = { meaning };
+
+    ghost total = { λ r. (orders r).total };
+
+    ghost chain = { λ r. (orders r).chain };
+
+    fn goes_before(&self, a: &ReadyFrame, b: &ReadyFrame) -> bool {
+        match self {
+            Ranking::Del => Del::new().goes_before(a, b),
+            Ranking::Deh => Deh::new().goes_before(a, b),
+            Ranking::Dml => Dml::new().goes_before(a, b),
+            Ranking::Drel => Drel::new().goes_before(a, b),
+            Ranking::El => El::new().goes_before(a, b),
+            Ranking::Ml => Ml::new().goes_before(a, b),
+        }
+    }
+}
