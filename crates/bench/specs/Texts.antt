@@ -1,0 +1,16 @@
+-- What a forecast and its figures print. Assumes nothing.
+use Rattle.std.specs.Prelude.{ℕ, List, ◌++◌, codes, decimal}
+use Rattle.bench.specs.declared.answer.Forecast.{Forecast}
+use Rattle.bench.specs.declared.answer.Forecast.TheVariants.{Holds, Fails}
+use Rattle.bench.specs.declared.figures.Figures.{Figures}
+
+-- the two boundaries of one that holds, or the first failure of one that fails
+abbrev pub forecast_text : Forecast → List ℕ
+forecast_text (Holds i j) = codes "holds " ++ (decimal i ++ (codes " " ++ decimal j))
+forecast_text (Fails f) = codes "fails slot " ++ (decimal f.slot ++ (codes " frame " ++ (decimal f.frame ++ (codes " instant " ++ decimal f.instant))))
+
+-- the figures in their order, each behind its name
+abbrev pub figures_text : Figures → List ℕ
+figures_text f =
+    codes "length "
+    ++ (decimal f.length ++ (codes " busy " ++ (decimal f.busy ++ (codes " met " ++ (decimal f.met ++ (codes " missed " ++ (decimal f.missed ++ (codes " load " ++ decimal f.load))))))))
