@@ -1,11 +1,10 @@
 use crate::history::History;
+use refusal::Refusal;
 
-// The distance and the restoring distance of a history, or the number of its refusal.
-fn distances(m: u64, k: u64, bits: u64) -> Result<(u8, u8), u8> {
-    match History::new(m, k, bits) {
-        Ok(history) => Ok((history.distance(), history.restoring_distance())),
-        Err(refusal) => Err(refusal.number()),
-    }
+// The distance and the restoring distance of a history, or its refusal.
+fn distances(m: u64, k: u64, bits: u64) -> Result<(u8, u8), Refusal> {
+    let history = History::new(m, k, bits)?;
+    Ok((history.distance(), history.restoring_distance()))
 }
 
 // The leftmost digit of a history is its oldest outcome.
@@ -25,6 +24,9 @@ fn worked(rt: HostRuntime) {
         (3, 3, 1 << 3, Err(7)),
     ];
     for (m, k, bits, wanted) in rows {
-        assert_eq!(rt; distances(m, k, bits), wanted);
+        assert_eq!(rt;
+            distances(m, k, bits).map_err(|refusal| refusal.number()),
+            wanted
+        );
     }
 }

@@ -29,6 +29,7 @@ impl History {
         ensures { result ≡ turns outcome (firm_of self.now) }
     {
         let mut history = *self;
+        // A loop and not a chain: the history changes with each step.
         for n in 0..self.k {
             if history.is_turned(outcome) {
                 return n;
@@ -42,6 +43,7 @@ impl History {
     fn is_turned(&self, outcome: Outcome) -> bool
         ensures { result ≡ turned outcome (firm_of self.now) 0 }
     {
+        // A match and not a closure from the caller: what turns a history follows from the outcome.
         match outcome {
             Outcome::Met => self.passes(),
             Outcome::Missed => !self.passes(),

@@ -4,7 +4,6 @@ ghost use Rattle.firm.specs.Outcomes.{bit};
 ghost use Rattle.firm.specs.Stands.{firm_of};
 
 use crate::history::History;
-use crate::history::window::{latest, met_among};
 use crate::outcome::Outcome;
 
 impl History {
@@ -12,11 +11,11 @@ impl History {
     pub fn enter(&self, outcome: Outcome) -> History
         ensures { firm_of result ≡ after (firm_of self.now) (bit outcome) }
     {
-        let moved = 2 * u32::from(self.bits) + outcome.bit();
+        let moved = 2 * u32::from(self.bits) + u32::from(outcome);
         History {
             m: self.m,
             k: self.k,
-            bits: latest(moved, self.k) as u16,
+            bits: self.latest(moved) as u16,
         }
     }
 
@@ -24,6 +23,6 @@ impl History {
     pub fn passes(&self) -> bool
         ensures { result ≡ passing (firm_of self.now) }
     {
-        met_among(u32::from(self.bits), self.k) >= u32::from(self.m)
+        self.met_among(u32::from(self.bits)) >= u32::from(self.m)
     }
 }

@@ -1,17 +1,19 @@
-ghost use Rattle.std.specs.Prelude.{◌≡◌, ◌%◌, ◌^◌, ◌≤◌, count_ones};
+ghost use Rattle.std.specs.Prelude.{◌≡◌, ◌%◌, ◌^◌, count_ones};
 
-// The lowest k bits.
-pub(super) fn latest(bits: u32, k: u8) -> u32
-    requires { k ≤ 16 }
-    ensures { result ≡ bits % 2 ^ k }
-{
-    bits & ((1 << k) - 1)
-}
+use crate::history::History;
 
-// How many of the lowest k bits are ones.
-pub(super) fn met_among(bits: u32, k: u8) -> u32
-    requires { k ≤ 16 }
-    ensures { result ≡ count_ones (bits % 2 ^ k) }
-{
-    latest(bits, k).count_ones()
+impl History {
+    // The lowest k bits.
+    pub(super) fn latest(&self, bits: u32) -> u32
+        ensures { result ≡ bits % 2 ^ self.now.k }
+    {
+        bits & ((1 << self.k) - 1)
+    }
+
+    // How many of the lowest k bits are ones.
+    pub(super) fn met_among(&self, bits: u32) -> u32
+        ensures { result ≡ count_ones (bits % 2 ^ self.now.k) }
+    {
+        self.latest(bits).count_ones()
+    }
 }

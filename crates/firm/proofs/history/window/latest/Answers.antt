@@ -1,9 +1,0 @@
--- The mask is 2 ^ k - 1, since k is below the word's width.
-use Rattle.std.proofs.Common.{◌≡◌, ◌*◌, ◌%◌, ◌^◌, arith}
-use Rattle.std.proofs.lemmas.Nat.{and_mask, one_shl}
-use Rattle.firm.proofs.history.window.latest.Goals as goal
-
-pub returns : goal.returns
-returns c =
-    let whole : (1 * 2 ^ c.args.k) % 2 ^ 32 ≡ 2 ^ c.args.k = one_shl c.args.k 32 (omega arith) in
-    simp whole (and_mask c.args.bits c.args.k)
