@@ -23,14 +23,12 @@ pub fn first_at<T, P: Precedes<T>>(by: &P, xs: &[T]) -> Option<usize>
     ensures value { result ≡ first_place (P.ahead by.now) xs.now }
     ensures first { First P.place (P.ahead by.now) xs.now result }
 {
-    if xs.is_empty() {
-        return None;
-    }
-    let mut first = 0;
-    for i in 1..xs.len() {
-        if by.precedes(&xs[i], &xs[first]) {
-            first = i;
+    let (first, _) = xs.iter().enumerate().reduce(|first, next| {
+        if by.precedes(next.1, first.1) {
+            next
+        } else {
+            first
         }
-    }
+    })?;
     Some(first)
 }

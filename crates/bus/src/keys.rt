@@ -5,7 +5,7 @@ use crate::layers::Key;
 use crate::ready::ReadyFrame;
 
 // D: the distance of the stream's history.
-#[derive(Clone, Copy)]
+#[derive(Clone, Copy, Default)]
 pub struct Distance;
 
 impl Key for Distance {
@@ -17,7 +17,7 @@ impl Key for Distance {
 }
 
 // R: the restoring distance of the stream's history.
-#[derive(Clone, Copy)]
+#[derive(Clone, Copy, Default)]
 pub struct Restoring;
 
 impl Key for Restoring {
@@ -29,7 +29,7 @@ impl Key for Restoring {
 }
 
 // E: the time left, so the earlier deadline first.
-#[derive(Clone, Copy)]
+#[derive(Clone, Copy, Default)]
 pub struct TimeLeft;
 
 impl Key for TimeLeft {
@@ -41,7 +41,7 @@ impl Key for TimeLeft {
 }
 
 // M: the period, so the more frequent stream first.
-#[derive(Clone, Copy)]
+#[derive(Clone, Copy, Default)]
 pub struct Period;
 
 impl Key for Period {

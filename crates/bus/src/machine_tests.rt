@@ -1,7 +1,7 @@
 use crate::bottoms::{Higher, Lower};
 use crate::keys::{Distance, Period, Restoring, SlotRank, TimeLeft};
 use crate::layers::{Key, Layer};
-use crate::named::{Deh, Del, Dml, Drel, El, Ml, Named};
+use crate::named::{Deh, Del, Dml, Drel, El, Ml};
 use crate::{Failure, Machine, Rule, first_failure};
 use std::process::Abort;
 use std::test::Fail;
@@ -41,7 +41,7 @@ fn over_bottoms<K: Key + Copy>(
 ) -> Result<[bool; 2], Fail> {
     Ok([
         is_sent_first(rt, &Layer::over(key, Lower), pair)?,
-        is_sent_first(rt, &Layer::over(key, Higher), pair)?,
+        is_sent_first(rt, &Layer::over(key, Higher::default()), pair)?,
     ])
 }
 
@@ -57,12 +57,12 @@ fn by_layers(rt: &impl Abort, pair: [Placed; 2]) -> Result<[[bool; 2]; 5], Fail>
 
 fn by_named(rt: &impl Abort, pair: [Placed; 2]) -> Result<[bool; 6], Fail> {
     Ok([
-        is_sent_first(rt, &Del::new(), pair)?,
-        is_sent_first(rt, &Deh::new(), pair)?,
-        is_sent_first(rt, &Dml::new(), pair)?,
-        is_sent_first(rt, &Drel::new(), pair)?,
-        is_sent_first(rt, &El::new(), pair)?,
-        is_sent_first(rt, &Ml::new(), pair)?,
+        is_sent_first(rt, &Del::default(), pair)?,
+        is_sent_first(rt, &Deh::default(), pair)?,
+        is_sent_first(rt, &Dml::default(), pair)?,
+        is_sent_first(rt, &Drel::default(), pair)?,
+        is_sent_first(rt, &El::default(), pair)?,
+        is_sent_first(rt, &Ml::default(), pair)?,
     ])
 }
 
@@ -179,7 +179,7 @@ fn twelve_units(rt: HostRuntime) -> Result<(), Fail> {
         (0, 0, 0),
     ];
     for (i, wanted) in told.iter().enumerate() {
-        let tally = machine.unit(&Del::new(), i == 5)?;
+        let tally = machine.unit(&Del::default(), i == 5)?;
         assert_eq!(rt; (tally.met, tally.missed, tally.failures), *wanted);
         if let Some(first) = tally.first {
             assert_eq!(rt; (first.slot, first.frame, first.instant), (1, 3, 10));

@@ -30,7 +30,7 @@ fn ready((slot, period, left, history): (u8, u64, u16, u64)) -> Result<ReadyFram
 fn over_bottoms<K: Key + Copy>(key: K, [a, b]: [ReadyFrame; 2]) -> [bool; 2] {
     [
         Layer::over(key, Lower).goes_before(&a, &b),
-        Layer::over(key, Higher).goes_before(&a, &b),
+        Layer::over(key, Higher::default()).goes_before(&a, &b),
     ]
 }
 
@@ -46,12 +46,12 @@ fn by_layers(pair: [ReadyFrame; 2]) -> [[bool; 2]; 5] {
 
 fn by_named([a, b]: [ReadyFrame; 2]) -> [bool; 6] {
     [
-        Del::new().goes_before(&a, &b),
-        Deh::new().goes_before(&a, &b),
-        Dml::new().goes_before(&a, &b),
-        Drel::new().goes_before(&a, &b),
-        El::new().goes_before(&a, &b),
-        Ml::new().goes_before(&a, &b),
+        Del::default().goes_before(&a, &b),
+        Deh::default().goes_before(&a, &b),
+        Dml::default().goes_before(&a, &b),
+        Drel::default().goes_before(&a, &b),
+        El::default().goes_before(&a, &b),
+        Ml::default().goes_before(&a, &b),
     ]
 }
 
@@ -125,9 +125,9 @@ fn firsts(rt: HostRuntime) -> Result<(), Fail> {
         ready((1, 9, 2, OLDEST))?,
     ];
     let fronts = [
-        front_at(&Del::new(), &frames),
-        front_at(&Deh::new(), &frames),
-        front_at(&Dml::new(), &frames),
+        front_at(&Del::default(), &frames),
+        front_at(&Deh::default(), &frames),
+        front_at(&Dml::default(), &frames),
         front_at(&Lower, &[]),
     ];
     assert_eq!(rt; fronts, [Some(3), Some(2), Some(1), None]);
