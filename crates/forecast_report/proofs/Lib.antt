@@ -1,4 +1,3 @@
 -- Lemmas for the printed bytes. Assumes nothing.
-pub mod Newlines
 pub mod Asked
 pub mod Foretold

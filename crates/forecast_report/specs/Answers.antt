@@ -11,11 +11,11 @@ use Rattle.model.specs.Ready.{Ready}
 use Rattle.model.specs.Schedule.{started}
 use Rattle.model.specs.Spelling.{Spells}
 use Rattle.model.specs.Tables.{Table}
-use Rattle.forecast_report.specs.Lines.{refused, holding, figured, failing}
-use Rattle.forecast_report.specs.Questions.{asked}
-use Rattle.forecast_report.specs.Rankings.{meaning}
-use Rattle.forecast_report.specs.Words.{word}
-use Rattle.forecast_report.specs.declared.ranking.Ranking.{Ranking}
+use Rattle.bus.specs.Rankings.{meaning, word}
+use Rattle.bus.specs.declared.ranking.Ranking.{Ranking}
+use Rattle.question.specs.Lines.{refused}
+use Rattle.question.specs.Questions.{asked}
+use Rattle.forecast_report.specs.Lines.{holding, figured, failing}
 
 -- the lines of an answer about the quiet schedule from a state: its boundaries and the figures between them, or its first failure
 abbrev pub lines : (Ready → Ready → Bool) → State → Answer → List ℕ

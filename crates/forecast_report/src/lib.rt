@@ -2,12 +2,6 @@
 #![tactic(auto)]
 
 mod answering;
-mod asking;
-mod lines;
-mod question;
-pub mod ranking;
 mod responding;
-mod words;
 
 pub use responding::respond;
-pub use words::ranking_of;

@@ -2,9 +2,8 @@
 ghost use Rattle.forecast_report.specs.Answers.{Forecasts, Prints};
 ghost use Rattle.std.specs.Prelude.{IfOk, string_bytes};
 
-use crate::answering::answer_under;
-use crate::asking::ask;
-use crate::lines::refused_line;
+use crate::answering::answer;
+use question::{ask, refused_line};
 use std::alloc::{AllocError, Global};
 
 // The bytes to print for an input, or `AllocError` where there is no memory for them.
@@ -13,7 +12,7 @@ pub fn respond(heap: Global, input: &[u8]) -> Result<String, AllocError>
     ensures forecasts { IfOk result (λ s. Forecasts input.now (string_bytes s)) }
 {
     match ask(input) {
-        Ok(question) => answer_under(heap, question.ranking, question.file),
+        Ok(question) => answer(heap, question),
         Err(fault) => refused_line(heap, fault),
     }
 }

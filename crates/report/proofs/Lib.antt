@@ -1,3 +1,2 @@
 -- Lemmas for the printed bytes. Assumes nothing.
-pub mod Newlines
 pub mod Asked

@@ -1,4 +1,3 @@
 -- What the program prints for an input. Assumes nothing.
-pub mod Words
 pub mod Lines
 pub mod Answers

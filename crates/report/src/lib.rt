@@ -2,8 +2,6 @@
 #![tactic(auto)]
 
 mod lines;
-pub mod ranking;
 mod responding;
-mod words;
 
 pub use responding::respond;

@@ -4,9 +4,9 @@ ghost use Rattle.refusal.specs.Tests.{on_ok};
 ghost use Rattle.streams.specs.Tables.{table_of};
 ghost use Rattle.report.specs.Answers.{Admits, asked, printed};
 
-use crate::lines::{admitted_line, refused_line};
-use crate::words::{line_end, ranking_of};
-use refusal::{Fault, Layer, Refusal};
+use crate::lines::admitted_line;
+use question::{ask, refused_line};
+use refusal::Fault;
 use std::alloc::{AllocError, Global};
 use streams::Table;
 use tablefile::read;
@@ -15,18 +15,7 @@ use tablefile::read;
 fn judge(input: &[u8]) -> Result<Table, Fault>
     ensures { on_ok table_of result ≡ asked input.now }
 {
-    let no_word = Fault {
-        refusal: Refusal::WordUnknown,
-        place: 0,
-        layer: Layer::Word,
-    };
-    let Some(end) = line_end(input) else {
-        return Err(no_word);
-    };
-    match ranking_of(&input[0..end]) {
-        Some(_) => read(&input[end + 1..]),
-        None => Err(no_word),
-    }
+    read(ask(input)?.file)
 }
 
 // The bytes to print for an input, or `AllocError` where there is no memory for them.

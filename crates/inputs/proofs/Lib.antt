@@ -1,0 +1,2 @@
+-- Lemmas for the answers of lines. Assumes nothing.
+pub mod Reached

@@ -1,0 +1,29 @@
+use crate::answer_all;
+use std::test::Fail;
+
+// The answer to an input is how many bytes it has.
+#[test]
+fn answers_in_order(rt: HostRuntime) -> Result<(), Fail> {
+    let heap = rt.alloc();
+    let mut told = Vec::new(heap);
+    let lines: &[u8] = b"0aFF\n\n3C\n";
+    answer_all(heap, lines, &mut told, |heap, input| {
+        let len = input.len();
+        format!(in heap; "{len};")
+    })?;
+    assert_eq!(rt; told.as_slice(), b"2;0;1;".as_slice());
+    Ok(())
+}
+
+#[test]
+fn no_hexadecimal(rt: HostRuntime) -> Result<(), Fail> {
+    let heap = rt.alloc();
+    for line in ["0", "0g", "0 "] {
+        let mut told = Vec::new(heap);
+        let answered = answer_all(heap, line.as_bytes(), &mut told, |heap, _| {
+            format!(in heap; "answer")
+        });
+        assert!(rt; answered.is_err());
+    }
+    Ok(())
+}

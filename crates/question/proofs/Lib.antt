@@ -1,0 +1,2 @@
+-- Lemmas for the questions of inputs. Assumes nothing.
+pub mod Known
