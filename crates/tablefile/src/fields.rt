@@ -32,9 +32,7 @@ fn held(map: u8, bit: u8) -> usize
 pub(crate) fn record_len(map: u8) -> usize
     ensures { result ≡ extent map }
 {
-    let wide = held(map, 0) + held(map, 1) + held(map, 2);
-    let narrow = held(map, 3) + held(map, 4);
-    1 + wide + narrow + held(map, 5)
+    1 + held(map, 0) + held(map, 1) + held(map, 2) + held(map, 3) + held(map, 4) + held(map, 5)
 }
 
 // The number that one or two bytes spell, the high byte first.
