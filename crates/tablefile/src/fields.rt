@@ -7,10 +7,9 @@ use streams::Numbers;
 
 // Whether a bit of a map stands.
 pub(crate) fn has(map: u8, bit: u8) -> bool
-    requires { bit < 8 }
     ensures { result ≡ stands map bit }
 {
-    (map >> bit) % 2 == 1
+    map.unbounded_shr(u32::from(bit)) % 2 == 1
 }
 
 // The bytes of a field: one for k and m, two for the others.
@@ -22,7 +21,6 @@ fn size(bit: u8) -> usize
 
 // The bytes of a field in a record with this field map: none where its bit does not stand.
 fn held(map: u8, bit: u8) -> usize
-    requires { bit < 8 }
     ensures { result ≡ (if stands map bit then size bit else 0) }
 {
     if has(map, bit) { size(bit) } else { 0 }
@@ -32,9 +30,7 @@ fn held(map: u8, bit: u8) -> usize
 pub(crate) fn record_len(map: u8) -> usize
     ensures { result ≡ extent map }
 {
-    let wide = held(map, 0) + held(map, 1) + held(map, 2);
-    let narrow = held(map, 3) + held(map, 4);
-    1 + wide + narrow + held(map, 5)
+    1 + held(map, 0) + held(map, 1) + held(map, 2) + held(map, 3) + held(map, 4) + held(map, 5)
 }
 
 // The number that one or two bytes spell, the high byte first.
@@ -50,8 +46,7 @@ fn number(bytes: &[u8]) -> u64
 
 // The number of a field, which is `missing` where its bit does not stand, and the bytes behind it.
 fn field(map: u8, bit: u8, bytes: &[u8], missing: u64) -> (u64, &[u8])
-    requires low { bit < 8 }
-    requires room { stands map bit ≡ true → size bit ≤ length bytes.now }
+    requires { stands map bit ≡ true → size bit ≤ length bytes.now }
     ensures value { result.0 ≡ (if stands map bit then number (size bit) bytes.now else missing) }
     ensures rest { result.1.now ≡ drop (if stands map bit then size bit else 0) bytes.now }
 {

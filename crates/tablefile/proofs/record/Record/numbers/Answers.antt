@@ -32,23 +32,23 @@ at_history c = onward c.args.self.now.bytes.now 4 _ _ (at_m (goal.at.After-field
 pub unreachable-requires : goal.unreachable-requires
 unreachable-requires c = let h = some c.args.self.now.bytes.now c.args.self.now.whole in search rules
 
-pub field-period-requires-clause-room : goal.field-period-requires-clause-room
-field-period-requires-clause-room c = room c.args.self.now.bytes.now 0 _ (omega arith) c.args.self.now.whole (at_period c.args.self.now.bytes.now)
+pub field-period-requires : goal.field-period-requires
+field-period-requires c = room c.args.self.now.bytes.now 0 _ (omega arith) c.args.self.now.whole (at_period c.args.self.now.bytes.now)
 
-pub field-service-requires-clause-room : goal.field-service-requires-clause-room
-field-service-requires-clause-room c = room c.args.self.now.bytes.now 1 _ (omega arith) c.args.self.now.whole (at_service (goal.at.field-service-requires-clause-room c).After-field-period)
+pub field-service-requires : goal.field-service-requires
+field-service-requires c = room c.args.self.now.bytes.now 1 _ (omega arith) c.args.self.now.whole (at_service (goal.at.field-service-requires c).After-field-period)
 
-pub field-deadline-requires-clause-room : goal.field-deadline-requires-clause-room
-field-deadline-requires-clause-room c = room c.args.self.now.bytes.now 2 _ (omega arith) c.args.self.now.whole (at_deadline (goal.at.field-deadline-requires-clause-room c).After-field-service)
+pub field-deadline-requires : goal.field-deadline-requires
+field-deadline-requires c = room c.args.self.now.bytes.now 2 _ (omega arith) c.args.self.now.whole (at_deadline (goal.at.field-deadline-requires c).After-field-service)
 
-pub field-k-requires-clause-room : goal.field-k-requires-clause-room
-field-k-requires-clause-room c = room c.args.self.now.bytes.now 3 _ (omega arith) c.args.self.now.whole (at_k (goal.at.field-k-requires-clause-room c).After-field-deadline)
+pub field-k-requires : goal.field-k-requires
+field-k-requires c = room c.args.self.now.bytes.now 3 _ (omega arith) c.args.self.now.whole (at_k (goal.at.field-k-requires c).After-field-deadline)
 
-pub field-m-requires-clause-room : goal.field-m-requires-clause-room
-field-m-requires-clause-room c = room c.args.self.now.bytes.now 4 _ (omega arith) c.args.self.now.whole (at_m (goal.at.field-m-requires-clause-room c).After-field-k)
+pub field-m-requires : goal.field-m-requires
+field-m-requires c = room c.args.self.now.bytes.now 4 _ (omega arith) c.args.self.now.whole (at_m (goal.at.field-m-requires c).After-field-k)
 
-pub field-history-requires-clause-room : goal.field-history-requires-clause-room
-field-history-requires-clause-room c = room c.args.self.now.bytes.now 5 _ (omega arith) c.args.self.now.whole (at_history (goal.at.field-history-requires-clause-room c).After-field-m)
+pub field-history-requires : goal.field-history-requires
+field-history-requires c = room c.args.self.now.bytes.now 5 _ (omega arith) c.args.self.now.whole (at_history (goal.at.field-history-requires c).After-field-m)
 
 pub returns : goal.returns
 returns c =
