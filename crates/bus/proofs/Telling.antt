@@ -1,13 +1,11 @@
 -- What is told of some outcomes and then of others. Assumes nothing.
-use Rattle.std.proofs.Common.{◌≡◌, ℕ, suc, ◌+◌, ◌<◌, ◌≤◌, Bool, true, false, cond, not, List, [], ◌∷◌, ◌++◌, length, get_or, drop, is_some, Some, None, Option, sym, refl, ap, ◌∙◌, subst, add_assoc, add-zero, zero-add, add-one, arith, lit≤}
+use Rattle.std.proofs.Common.{◌≡◌, ℕ, ◌+◌, ◌<◌, ◌≤◌, Bool, true, false, cond, not, List, [], ◌∷◌, ◌++◌, length, get_or, drop, is_some, Some, None, Option, sym, refl, ap, ◌∙◌, subst, add_assoc, add-zero, zero-add, add-one, arith, lit≤}
 use Rattle.std.proofs.lemmas.List.{drop_more, drop_all}
 use Rattle.std.specs.Bool.{then_some}
-use Rattle.std.specs.Option.{option_map}
 use Rattle.firm.specs.declared.outcome.Outcome as firm
 use Rattle.firm.specs.declared.outcome.Outcome.TheVariants.{Met, Missed}
-use Rattle.model.specs.Machine as model
 use Rattle.model.specs.Machine.{Row, Rows, Outcome, dropped, drops}
-use Rattle.model.specs.Tally.{Tally, Failure, how_many, soonest, failure_of, first_failure, tally}
+use Rattle.model.specs.Tally.{Tally, Failure, how_many, soonest, first_failure, tally}
 use Rattle.model.proofs.Tallies.{how_many_append, soonest_assoc, first_failure_append}
 use Rattle.bus.specs.Endings.{is_met, told_of, AtMost}
 use Rattle.bus.specs.Tallies.{together}
