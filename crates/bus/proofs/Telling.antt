@@ -1,14 +1,15 @@
 -- What is told of some outcomes and then of others. Assumes nothing.
-use Rattle.std.proofs.Common.{◌≡◌, ℕ, ◌+◌, ◌<◌, ◌≤◌, Bool, true, false, cond, not, List, [], ◌∷◌, ◌++◌, length, get_or, drop, is_some, Some, None, Option, sym, refl, ap, ◌∙◌, subst, add_assoc, add-zero, zero-add, add-one, arith, lit≤}
+use Rattle.std.proofs.Common.{◌≡◌, ℕ, ◌+◌, ◌<◌, ◌≤◌, Bool, true, false, cond, not, List, [], ◌∷◌, ◌++◌, length, get_or, drop, is_some, Some, None, Option, sym, refl, ap, min, ◌∙◌, subst, add_assoc, add-zero, zero-add, add-one, arith, lit≤}
 use Rattle.std.proofs.lemmas.List.{drop_more, drop_all}
 use Rattle.std.specs.Bool.{then_some}
+use Rattle.std.proofs.Math.Nat.{min-eq_left}
 use Rattle.firm.specs.declared.outcome.Outcome as firm
 use Rattle.firm.specs.declared.outcome.Outcome.TheVariants.{Met, Missed}
 use Rattle.model.specs.Machine.{Row, Rows, Outcome, dropped, drops}
 use Rattle.model.specs.Tally.{Tally, Failure, how_many, soonest, first_failure, tally}
 use Rattle.model.proofs.Tallies.{how_many_append, soonest_assoc, first_failure_append}
 use Rattle.bus.specs.Endings.{is_met, told_of, AtMost}
-use Rattle.bus.specs.Tallies.{together}
+use Rattle.bus.specs.Tallies.{capped, together}
 use Rattle.bus.specs.declared.failure.Failure as code
 use Rattle.bus.specs.declared.machine.ended.Ended.{Ended}
 
@@ -71,6 +72,13 @@ none_few n t e = subst (AtMost n) (sym e) (omega arith, omega arith, omega arith
 
 pub one_few : (t nothing : Tally) (e : Option Ended) → nothing ≡ tally [] → t ≡ together nothing (told_of e) → AtMost 1 t
 one_few t nothing e none one = subst (AtMost 1) (sym (one ∙ ap (λ n. together n (told_of e)) none ∙ nothing_and _)) (told_few e)
+
+-- counts that are not above the most stay as they are
+pub capped_few : (most : ℕ) (t : Tally) → AtMost most t → capped most t ≡ t
+capped_few most t h =
+    ap (λ n. record { met = n; missed = min t.missed most; failures = min t.failures most; first = t.first }) (min-eq_left h.0)
+    ∙ ap (λ n. record { met = t.met; missed = n; failures = min t.failures most; first = t.first }) (min-eq_left h.1)
+    ∙ ap (λ n. record { met = t.met; missed = t.missed; failures = n; first = t.first }) (min-eq_left h.2)
 
 -- ---- the drops of the slots, told one after the other
 

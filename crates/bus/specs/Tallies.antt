@@ -1,5 +1,5 @@
 -- What is told of some outcomes and then of others. Assumes nothing.
-use Rattle.std.specs.Prelude.{◌+◌}
+use Rattle.std.specs.Prelude.{ℕ, ◌+◌, min}
 use Rattle.model.specs.Tally.{Tally, soonest}
 
 -- the sums of the counts, and the sooner of the first failures
@@ -9,4 +9,13 @@ together a b = record {
   missed = a.missed + b.missed;
   failures = a.failures + b.failures;
   first = soonest a.first b.first;
+}
+
+-- the same tally, but no count passes the most
+abbrev pub capped : ℕ → Tally → Tally
+capped most t = record {
+  met = min t.met most;
+  missed = min t.missed most;
+  failures = min t.failures most;
+  first = t.first;
 }

@@ -1,7 +1,7 @@
-ghost use Rattle.std.specs.Prelude.{◌≡◌, ◌+◌, ◌^◌, ◌<◌, [], Some};
+ghost use Rattle.std.specs.Prelude.{◌≡◌, ◌-◌, ◌^◌, [], Some};
 ghost use Rattle.bus.specs.Endings.{AtMost, told_of};
 ghost use Rattle.bus.specs.Machines.{failure_note, tally_of};
-ghost use Rattle.bus.specs.Tallies.{together};
+ghost use Rattle.bus.specs.Tallies.{capped, together};
 ghost use Rattle.model.specs.Tally.{soonest, tally};
 ghost use Rattle.std.specs.Option.{option_map};
 
@@ -23,17 +23,14 @@ impl Tally {
         }
     }
 
-    // What is told of some outcomes and then of others.
+    // What is told of some outcomes and then of others. A count that would pass 64 bits stays at the most that they hold.
     pub fn together(self, other: Tally) -> Tally
-        requires met { self.met + other.met < 2 ^ 64 }
-        requires missed { self.missed + other.missed < 2 ^ 64 }
-        requires failures { self.failures + other.failures < 2 ^ 64 }
-        ensures { tally_of result ≡ together (tally_of self) (tally_of other) }
+        ensures { tally_of result ≡ capped (2 ^ 64 - 1) (together (tally_of self) (tally_of other)) }
     {
         Tally {
-            met: self.met + other.met,
-            missed: self.missed + other.missed,
-            failures: self.failures + other.failures,
+            met: self.met.saturating_add(other.met),
+            missed: self.missed.saturating_add(other.missed),
+            failures: self.failures.saturating_add(other.failures),
             first: soonest(self.first, other.first),
         }
     }

@@ -4,6 +4,7 @@ use Rattle.std.proofs.lemmas.List.{length-map}
 use Rattle.model.specs.Figures.{busy_units}
 use Rattle.bus.specs.Machines.{state_of, tally_of}
 use Rattle.bus.specs.Tallies.{together}
+use Rattle.bus.proofs.Telling.{capped_few}
 use Rattle.bench.proofs.Advancing.{Led, led_none, led_few, led_next, led_early, busy_more, figures_led}
 use Rattle.bench.proofs.Stretches.{busy_units_few}
 use Rattle.bench.proofs.running.Running.figures_over.Given as given
@@ -32,19 +33,17 @@ next :
     (state_of c.quiet_unit.new.bus) (together (tally_of c.loop.told) (tally_of c.quiet_unit.result))
 next g c = led_next _ _ c.loop.counter _ _ _ _ c.loop.invariant.0 c.quiet_unit.ensures.told c.quiet_unit.ensures.state
 
-pub together-told-requires : goal.together-told-requires
-together-told-requires g c =
+pub loop-preserved : goal.loop-preserved
+loop-preserved g c =
     let m = c.args.bus in
     let eight : length (state_of m).rows ≡ 8 = length-map m.state.rows _ ∙ m.state.eight in
-    let few = led_few _ _ _ _ _ eight (next g c) in
-    record { met = omega (arith, few.0, c.requires.early); missed = omega (arith, few.1, c.requires.early); failures = omega (arith, few.2, c.requires.early) }
-
-pub loop-preserved : goal.loop-preserved
-loop-preserved g c = (
-  subst (Led _ _ _ _) (sym c.together-told.ensures) (next g (goal.at.loop-preserved g c).After-quiet_unit),
-  ap (λ n. c.loop.busy + n) (c.from-busy.ensures ∙ byte c.is_busy_next.result ∙ ap {B = ℕ} (λ b. cond b 1 0) (c.is_busy_next.ensures _))
-      ∙ busy_more _ _ c.loop.counter c.loop.busy _ _ c.loop.invariant.0 c.loop.invariant.1,
-)
+    let n = next g (goal.at.loop-preserved g c).After-quiet_unit in
+    let few = led_few _ _ _ _ _ eight n in
+    let early = c.requires.early in (
+      subst (Led _ _ _ _) (sym (c.together-told.ensures ∙ capped_few _ _ (omega (arith, few.0, early), omega (arith, few.1, early), omega (arith, few.2, early)))) n,
+      ap (λ n. c.loop.busy + n) (c.from-busy.ensures ∙ byte c.is_busy_next.result ∙ ap {B = ℕ} (λ b. cond b 1 0) (c.is_busy_next.ensures _))
+          ∙ busy_more _ _ c.loop.counter c.loop.busy _ _ c.loop.invariant.0 c.loop.invariant.1,
+    )
 
 pub overflow_mul-result : goal.overflow_mul-result
 overflow_mul-result g c =

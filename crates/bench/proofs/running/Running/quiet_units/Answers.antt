@@ -2,6 +2,7 @@ use Rattle.std.proofs.Common.{◌≡◌, ◌+◌, length, ◌∙◌, sym, subst,
 use Rattle.std.proofs.lemmas.List.{length-map}
 use Rattle.bus.specs.Machines.{state_of, tally_of}
 use Rattle.bus.specs.Tallies.{together}
+use Rattle.bus.proofs.Telling.{capped_few}
 use Rattle.bench.proofs.Advancing.{Led, led_none, led_few, led_next, led_early}
 use Rattle.bench.proofs.running.Running.quiet_units.Given as given
 use Rattle.bench.proofs.running.Running.quiet_units.Goals as goal
@@ -20,12 +21,10 @@ next :
     (state_of c.quiet_unit.new.bus) (together (tally_of c.loop.told) (tally_of c.quiet_unit.result))
 next g c = led_next _ _ c.loop.counter _ _ _ _ c.loop.invariant c.quiet_unit.ensures.told c.quiet_unit.ensures.state
 
-pub together-told-requires : goal.together-told-requires
-together-told-requires g c =
+pub loop-preserved : goal.loop-preserved
+loop-preserved g c =
     let m = c.args.bus.now in
     let eight : length (state_of m).rows ≡ 8 = length-map m.state.rows _ ∙ m.state.eight in
-    let few = led_few _ _ _ _ _ eight (next g c) in
-    record { met = omega (arith, few.0); missed = omega (arith, few.1); failures = omega (arith, few.2) }
-
-pub loop-preserved : goal.loop-preserved
-loop-preserved g c = subst (Led _ _ _ _) (sym c.together-told.ensures) (next g (goal.at.loop-preserved g c).After-quiet_unit)
+    let n = next g (goal.at.loop-preserved g c).After-quiet_unit in
+    let few = led_few _ _ _ _ _ eight n in
+    subst (Led _ _ _ _) (sym (c.together-told.ensures ∙ capped_few _ _ (omega (arith, few.0), omega (arith, few.1), omega (arith, few.2)))) n
