@@ -1,19 +1,21 @@
 -- Quiet units, one after the other: where they lead, what they tell, and that the counts stay small. Assumes nothing.
-use Rattle.std.proofs.Common.{◌≡◌, ℕ, suc, ◌+◌, ◌*◌, ◌<◌, ◌≤◌, Bool, true, false, not, ltb, List, [], ◌∷◌, ◌++◌, length, replicate, Ok, Err, refl, ap, ◌∙◌, subst, append-nil, add-one, arith}
+use Rattle.std.proofs.Common.{◌≡◌, ℕ, suc, ◌+◌, ◌*◌, ◌/◌, ◌<◌, ◌≤◌, Bool, true, false, not, ltb, cond, List, [], ◌∷◌, ◌++◌, length, replicate, Ok, refl, sym, ap, ◌∙◌, subst, append-nil, zero-add, add-one, arith}
 use Rattle.std.proofs.lemmas.Bool.Decides.{nat_tests}
 use Rattle.refusal.specs.Tests.{on_ok, kept}
-use Rattle.refusal.specs.declared.Refusal.{Refusal}
 use Rattle.model.specs.Bench.{last_instant, disturbed, state_after, tally_after}
 use Rattle.model.specs.Machine.{State, Outcome, unit, outcomes}
 use Rattle.model.specs.Ready.{Ready}
-use Rattle.model.specs.Schedule.{run, ran}
+use Rattle.model.specs.Figures.{busy, busy_units, figures_over}
+use Rattle.model.specs.Schedule.{run, ran, after}
 use Rattle.model.specs.Tally.{Tally, tally}
 use Rattle.model.proofs.Runs.{run_more, ran_more}
 use Rattle.model.proofs.Tallies.{how_many_append, how_many_not, first_failure_append}
+use Rattle.promise.proofs.Runs.{run_quiet}
 use Rattle.bus.specs.Machines as one
 use Rattle.bus.specs.Machines.{at_limit}
-use Rattle.bench.specs.Tallies.{together}
-use Rattle.bench.proofs.Quiet.{quiet_in_time, quiet_few}
+use Rattle.bus.specs.Tallies.{together}
+use Rattle.bench.proofs.Stretches.{figures_by}
+use Rattle.bench.proofs.Quiet.{quiet_now, quiet_few}
 
 tally_together : (xs ys : List Outcome) → tally (xs ++ ys) ≡ together (tally xs) (tally ys)
 unfolding tally
@@ -41,6 +43,13 @@ module _ (before : Ready → Ready → Bool) (s : State) where
       ap tally (ran_more before false s n) ∙ tally_together _ _ in
       rw add-one (record { state = cc; told = cc })
 
+  -- one more unit, by what is told of it
+  pub led_next :
+      (n : ℕ) (x y : State) (t u : Tally) → Led n x t → u ≡ tally (outcomes before false x) → y ≡ unit before false x
+      → Led (n + 1) y (together t u)
+  led_next n x y t u h told state =
+      subst (λ v. Led (n + 1) y (together t v)) (sym told) (subst (λ z. Led (n + 1) z (together t (tally (outcomes before false x)))) (sym state) (led_more n x t h))
+
   -- a unit gives at most nine outcomes
   pub led_few : (n : ℕ) (x : State) (t : Tally) → length s.rows ≡ 8 → Led n x t → (t.met ≤ 9 * n) × (t.missed ≤ 9 * n) × (t.failures ≤ 9 * n)
   unfolding tally
@@ -52,20 +61,23 @@ module _ (before : Ready → Ready → Bool) (s : State) where
         omega (arith, few, ap (λ y. y.failures) h.told, how_many_not (λ o. o.failure) os),
       )
 
-  -- a unit that comes before the last of some is not refused
-  module _ (n units : ℕ) (x : State) (t : Tally) (h : Led n x t) (more : n < units) (early : s.now + units ≤ last_instant) where
-    in_time : at_limit x ≡ false
-    in_time = quiet_in_time before s n x units h.state more (omega arith)
+  -- a unit that comes before the last of some comes before the last instant
+  pub led_early : (n units limit : ℕ) (x : State) (t : Tally) → Led n x t → n < units → s.now + units ≤ limit → x.now < limit
+  led_early n units limit x t h more early = omega (arith, quiet_now before s n x h.state)
 
-    pub led_never : (e : Refusal) → Err e ≡ one.told before false x → ⊥
-    led_never e is = let f = in_time in let z : ◌≡◌ {A = ℕ} 0 1 = cc in omega arith
+  -- how many of the units are busy
+  pub busy_more : (n b : ℕ) (x : State) (t : Tally) → Led n x t → b ≡ busy_units before s 0 n → b + cond (busy before x) 1 0 ≡ busy_units before s 0 (n + 1)
+  unfolding busy_units
+  busy_more n b x t h e =
+      let here : x ≡ after before s (0 + n) = h.state ∙ run_quiet before s n ∙ ap (after before s) (sym (zero-add n)) in
+      rw add-one (omega (arith, e, ap {B = ℕ} (λ y. cond (busy before y) 1 0) here))
 
-    pub led_on : (y : State) (u : Tally) → Ok u ≡ one.told before false x → y ≡ one.moved before false x → Led (n + 1) y (together t u)
-    led_on y u answer state =
-        let f = in_time in
-        let told : tally (outcomes before false x) ≡ u = grind (arith, nat_tests) in
-        let led : unit before false x ≡ y = grind (arith, nat_tests) in
-        subst (λ v. Led (n + 1) y (together t v)) told (subst (λ z. Led (n + 1) z (together t (tally (outcomes before false x)))) led (led_more n x t h))
+  -- the figures of the units, by what they tell and how many of them are busy
+  pub figures_led :
+      (n b : ℕ) (x : State) (t : Tally) → Led n x t → b ≡ busy_units before s 0 n
+      → record { length = n; busy = b; met = t.met; missed = t.missed; load = 1000 * b / n } ≡ figures_over before s 0 n
+  unfolding tally
+  figures_led n b x t h e = figures_by before s n b t.met t.missed e (ap (λ (y : Tally). y.met) h.told) (ap (λ (y : Tally). y.missed) h.told)
 
 -- one noisy unit before the last instant: what it answers and where it leads
 module _ (before : Ready → Ready → Bool) (s : State) (early : s.now < last_instant) where

@@ -1,5 +1,6 @@
 -- The figures of a forecast that holds, measured from its first boundary of the two. Assumes nothing.
-use Rattle.std.proofs.Common.{◌≡◌, ℕ, ◌+◌, ◌-◌, ◌*◌, ◌%◌, ◌<◌, ◌≤◌, Bool, Some, None, Option, ap, ◌∙◌, le_refl, add-mul, mul-le-mul, one-mul, arith}
+use Rattle.std.proofs.Common.{◌≡◌, ℕ, ◌+◌, ◌-◌, ◌*◌, ◌%◌, ◌<◌, ◌≤◌, Bool, Some, None, Option, Ok, Err, Result, ap, ◌∙◌, le_refl, add-mul, mul-le-mul, one-mul, arith, rules}
+use Rattle.std.specs.Result.{IsOk}
 use Rattle.model.specs.Bench.{last_instant}
 use Rattle.model.specs.Figures.{Figures, Measures, figures}
 use Rattle.model.specs.Forecast.{table_of, period_of, units_to, Holds, Fails}
@@ -11,6 +12,9 @@ use Rattle.model.specs.Tally.{Failure}
 use Rattle.laws.specs.Sound.{Sound}
 use Rattle.promise.proofs.Boundaries.{units_are, period_positive}
 use Rattle.promise.proofs.Single.{one_answer}
+use Rattle.bus.specs.Machines.{failure_note}
+use Rattle.bus.specs.declared.failure.Failure as note
+use Rattle.bench.specs.Searches.{Walks}
 use Rattle.bench.proofs.Foretelling.{period_is, count_is, less, units_are_first}
 
 module _ (before : Ready → Ready → Bool) (s : State) (h : Sound s) where
@@ -32,10 +36,12 @@ module _ (before : Ready → Ready → Bool) (s : State) (h : Sound s) where
     failing = λ g other. e;
   }
 
-  pub holds_or_fails : (i j : ℕ) (f : Failure) → Holds before s i j → Fails before s f → ⊥
-  holds_or_fails i j f one two =
-      let same : holds i j ≡ fails f = one_answer before s h (holds i j) (fails f) one two in
-      let z : ◌≡◌ {A = ℕ} 0 1 = cc in omega arith
+  -- where the forecast holds, a walk comes to its end
+  pub walk_is_ok : (i j : ℕ) → Holds before s i j → (n : ℕ) (x : State) (r : Result (Unit {0}) note.Failure) → Walks before s n x r → IsOk r
+  walk_is_ok i j holding n x (Ok u) w = search rules
+  walk_is_ok i j holding n x (Err f) w =
+      let same : holds i j ≡ fails (failure_note f) = one_answer before s h (holds i j) (fails (failure_note f)) holding w in
+      absurd (let z : ◌≡◌ {A = ℕ} 0 1 = cc in omega arith)
 
 -- the way to the first of the two boundaries, n units to boundary 0 and then i hyper-periods of p units, and from it to the second
 pub record Way (s : State) (i j p n : ℕ) : Type 0 where

@@ -16,7 +16,8 @@ use Rattle.promise.proofs.Onward.{onward_on, onward_period, onward_table, onward
 use Rattle.promise.proofs.Walks.{walk_now}
 use Rattle.bus.specs.Machines.{failure_note}
 use Rattle.bus.specs.declared.failure.Failure as note
-use Rattle.bench.specs.Searches.{Searchable, PairFound, machine_limit}
+use Rattle.bench.specs.Searches.{Searchable, EarliestFound, machine_limit}
+use Rattle.bench.specs.declared.search.round.Round.{Round}
 
 module _ (s : State) (h : Sound s) (t : Table) (same : ∥ table_of s ≡ t ∥₁) where
   pub period_is : hyper_period t ≡ period_of s
@@ -53,6 +54,6 @@ module _ (before : Ready → Ready → Bool) (s : State) (h : Sound s) (x : Stat
   pub fails_onward : (f : Failure) → Fails before x f → Fails before s f
   fails_onward f there = onward_tells before s h x w.stands w.fine (fails f) there
 
-  pub pair_onward : (r : Result (ℕ × ℕ) note.Failure) → PairFound before x r → PairFound before s r
-  pair_onward (Ok p) there = onward_tells before s h x w.stands w.fine (holds p.0 p.1) there
-  pair_onward (Err f) there = fails_onward (failure_note f) there
+  pub earliest_onward : (found : Result Round note.Failure) → EarliestFound before x found → EarliestFound before s found
+  earliest_onward (Ok r) there = onward_tells before s h x w.stands w.fine (holds r.from r.to) there
+  earliest_onward (Err f) there = fails_onward (failure_note f) there

@@ -1,21 +1,15 @@
--- Quiet units from a state: the instant to which they lead, that none is refused before the last of some, and how few outcomes they give.
--- Assumes nothing.
-use Rattle.std.proofs.Common.{◌≡◌, ℕ, ◌+◌, ◌*◌, ◌^◌, ◌<◌, ◌≤◌, Bool, false, length, replicate, ap, arith}
+-- Quiet units from a state: the instant to which they lead, and how few outcomes they give. Assumes nothing.
+use Rattle.std.proofs.Common.{◌≡◌, ℕ, ◌+◌, ◌*◌, ◌≤◌, Bool, false, length, replicate, ap, arith}
 use lib.ListN.{length-replicate}
-use Rattle.std.proofs.lemmas.Bool.Decides.{nat_tests}
 use Rattle.model.specs.Machine.{State}
 use Rattle.model.specs.Ready.{Ready}
 use Rattle.model.specs.Schedule.{run, ran}
 use Rattle.model.proofs.Runs.{ran_few}
 use Rattle.laws.proofs.Running.{run_now}
-use Rattle.bus.specs.Machines.{at_limit}
 
 module _ (before : Ready → Ready → Bool) (s : State) (n : ℕ) where
-  quiet_now : (x : State) → x ≡ run before s (replicate n false) → x.now ≡ s.now + n
+  pub quiet_now : (x : State) → x ≡ run before s (replicate n false) → x.now ≡ s.now + n
   quiet_now x e = omega (arith, ap (λ (y : State). y.now) e, run_now before s (replicate n false), length-replicate n false)
-
-  pub quiet_in_time : (x : State) (units : ℕ) → x ≡ run before s (replicate n false) → n < units → s.now + units ≤ 2 ^ 41 → at_limit x ≡ false
-  quiet_in_time x units e more early = let now : x.now ≡ s.now + n = quiet_now x e in grind (arith, nat_tests)
 
   -- a unit of a table of eight slots gives at most nine outcomes
   pub quiet_few : length s.rows ≡ 8 → length (ran before s (replicate n false)) ≤ 9 * n

@@ -1,17 +1,35 @@
 -- The two searches over a machine that stands at a boundary: that they do not come to its last instant, and what their turns give.
 -- Assumes nothing.
-use Rattle.std.proofs.Common.{◌≡◌, ℕ, ◌+◌, ◌*◌, ◌<◌, ◌≤◌, Bool, sym, ap, ◌∙◌, subst, add-mul, mul-le-mul, one-mul, arith}
+use Rattle.std.proofs.Common.{◌≡◌, ℕ, ◌+◌, ◌-◌, ◌*◌, ◌<◌, ◌≤◌, Bool, sym, ap, ◌∙◌, subst, add-mul, mul-le-mul, one-mul, arith}
 use Rattle.model.specs.Ready.{Ready}
 use Rattle.model.specs.Machine.{State}
 use Rattle.model.specs.Tables.{histories}
-use Rattle.model.specs.Forecast.{table_of, histories_of, period_of, at_boundary, Holds}
+use Rattle.model.specs.Tally.{Failure}
+use Rattle.model.specs.Forecast.{table_of, histories_of, period_of, at_boundary, Fails, Holds}
 use Rattle.laws.specs.Sound.{Sound}
 use Rattle.promise.specs.Answers.{Walked, Returns}
-use Rattle.promise.proofs.Search.{At, Hunting, Closing, boundary_now, at_first, at_later, at_next, at_histories, hunt_found, hunt_on, hunt_anew, close_first, close_found, close_on}
+use Rattle.promise.proofs.Search.{At, Hunting, Closing, boundary_now, at_first, at_later, at_next, at_histories, at_fails, hunt_first, hunt_found, hunt_on, hunt_anew, close_first, close_found, close_on}
 use Rattle.promise.proofs.Found.{found_holds}
+use Rattle.laws.proofs.Held.{held_sound}
+use Rattle.bus.specs.Machines.{state_of}
+use Rattle.bus.specs.declared.machine.Machine.{Machine}
 use Rattle.bench.specs.Searches.{Searchable, machine_limit}
 
-module _ (before : Ready → Ready → Bool) (x : State) (h : Sound x) (period : ℕ) (from : Searchable x period) where
+-- a turn of the first search: the histories of boundary i are kept, and the walker stands one boundary before boundary to
+abbrev pub Turn : (Ready → Ready → Bool) → State → ℕ → ℕ → State → State → Type 0
+Turn before x i to kept walker = (n : ℕ) × (i + (n + 1) ≡ to) × Hunting before x i n kept walker
+
+-- a machine that can be searched from, with its hyper-period
+module _ (before : Ready → Ready → Bool) (m : Machine) (asked : ℕ) (searchable : Searchable (state_of m) asked) (period : ℕ) (same : period ≡ asked) where
+  abbrev x : State
+  x = state_of m
+
+  h : Sound x
+  h = held_sound x m.sound
+
+  from : Searchable x period
+  from = subst (Searchable x) (sym same) searchable
+
   -- how far a walker may go on
   at_room : (i m : ℕ) (w : State) → At before x i w → i + m ≤ 3 * histories (table_of x) → w.now + m * period ≤ machine_limit
   at_room i m w a soon =
@@ -28,6 +46,10 @@ module _ (before : Ready → Ready → Bool) (x : State) (h : Sound x) (period :
   pub at_on : (i : ℕ) (w v : State) → At before x i w → Walked before w period v → At before x (i + 1) v
   at_on i w v a b = at_next before x h from.on i w v a (subst (λ n. Walked before w n v) from.is b)
 
+  -- a failure on the way is the first from here
+  pub walk_fails : (i : ℕ) (w : State) → At before x i w → (f : Failure) → Fails before w f → Fails before x f
+  walk_fails i w a f there = at_fails before x h from.on i w f a there
+
   pub first_room : (n : ℕ) → n ≤ 3 * histories (table_of x) → x.now + n * period ≤ machine_limit
   first_room n soon = at_room 0 n x (at_first before x h from.on) (omega arith)
 
@@ -36,19 +58,40 @@ module _ (before : Ready → Ready → Bool) (x : State) (h : Sound x) (period :
       subst (λ k. At before x k v) (omega arith)
       (at_later before x h from.on 0 n x v (at_first before x h from.on) (subst (λ p. Walked before x (n * p) v) from.is b))
 
-  -- a turn of the first search
-  module _ (i n : ℕ) (kept walker v : State) (hunt : Hunting before x i n kept walker) (walked : Walked before walker period v) where
-    pub hunted : At before x (i + (n + 1)) v
-    hunted = subst (λ k. At before x k v) (omega arith) (at_on (i + n) walker v hunt.there walked)
+  pub turn_first : Turn before x 0 1 x x
+  turn_first = (0, omega arith, hunt_first before x h from.on)
 
-    pub round_found : histories_of kept ≡ histories_of v → Returns before x i (n + 1)
-    round_found e = hunt_found before x h from.on i n kept walker v hunt hunted e
+  -- it comes before the last boundary of a search
+  pub turn_soon : (i to : ℕ) (kept walker : State) → Turn before x i to kept walker → to ≤ 3145728
+  turn_soon i to kept walker turn = omega (arith, turn.1, turn.2.short, from.few)
 
-    pub round_on : (histories_of kept ≡ histories_of v → ⊥) → n + 1 ≤ i → Hunting before x i (n + 1) kept v
-    round_on other low = hunt_on before x h from.on i n kept walker v hunt hunted other low
+  module _ (i to : ℕ) (kept walker : State) (turn : Turn before x i to kept walker) where
+    pub turn_room : walker.now + period ≤ machine_limit
+    turn_room = walk_room (i + turn.0) walker turn.2.there (omega (arith, turn.2.short))
 
-    pub round_anew : (histories_of kept ≡ histories_of v → ⊥) → i < n + 1 → Hunting before x (i + (n + 1)) 0 v v
-    round_anew other over = hunt_anew before x h from.on i n kept walker v hunt hunted other over
+    pub turn_fails : (f : Failure) → Fails before walker f → Fails before x f
+    turn_fails = walk_fails (i + turn.0) walker turn.2.there
+
+    module _ (v : State) (walked : Walked before walker period v) where
+      reached : At before x (i + (turn.0 + 1)) v
+      reached = subst (λ k. At before x k v) (omega arith) (at_on (i + turn.0) walker v turn.2.there walked)
+
+      pub turn_found : histories_of kept ≡ histories_of v → Returns before x i (to - i) × (to ≤ 3 * histories (table_of x))
+      turn_found e = (
+        subst (λ n. Returns before x i n) (omega (arith, turn.1)) (hunt_found before x h from.on i turn.0 kept walker v turn.2 reached e),
+        omega (arith, turn.1, turn.2.short),
+      )
+
+      module _ (other : histories_of kept ≡ histories_of v → ⊥) where
+        pub turn_on : to ≤ 2 * i → Turn before x i (to + 1) kept v
+        turn_on low = (turn.0 + 1, omega (arith, turn.1), hunt_on before x h from.on i turn.0 kept walker v turn.2 reached other (omega (arith, turn.1)))
+
+        pub turn_anew : 2 * i < to → Turn before x to (to + 1) v v
+        turn_anew over = (
+          0,
+          omega arith,
+          subst (λ k. Hunting before x k 0 v v) turn.1 (hunt_anew before x h from.on i turn.0 kept walker v turn.2 reached other (omega (arith, turn.1))),
+        )
 
   -- a turn of the second search
   pub pair_first : (i n : ℕ) (far : State) → Returns before x i n → Walked before x (n * period) far → Closing before x i n 0 x far
@@ -59,9 +102,9 @@ module _ (before : Ready → Ready → Bool) (x : State) (h : Sound x) (period :
     pair_found e = found_holds before x h i j n close.returns (close_found before x h from.on i n j near far close e)
 
     pub pair_last : j ≡ i → Holds before x i (i + n)
-    pair_last same = subst (λ k. Holds before x k (k + n)) same (pair_found (
+    pair_last all = subst (λ k. Holds before x k (k + n)) all (pair_found (
         at_histories before x h from.on j near close.here
-        ∙ subst (λ k. at_boundary before x k ≡ at_boundary before x (k + n)) (sym same) close.returns.again
+        ∙ subst (λ k. at_boundary before x k ≡ at_boundary before x (k + n)) (sym all) close.returns.again
         ∙ sym (at_histories before x h from.on (j + n) far close.there)))
 
     pub pair_on : (histories_of near ≡ histories_of far → ⊥) → (near' far' : State) → Walked before near period near' → Walked before far period far' → Closing before x i n (j + 1) near' far'

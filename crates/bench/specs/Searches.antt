@@ -1,7 +1,5 @@
 -- What the parts of the search for a forecast find, or the failure that ends it. Assumes nothing.
-use Rattle.std.specs.Prelude.{◌≡◌, ℕ, ◌+◌, ◌*◌, ◌≤◌, Bool, true, false, Ok, Err, Option, Result}
-use Rattle.std.specs.Option.{option_map}
-use Rattle.firm.specs.declared.history.History.{History}
+use Rattle.std.specs.Prelude.{◌≡◌, ℕ, ◌-◌, ◌*◌, ◌≤◌, Bool, true, false, Ok, Err, Result}
 use Rattle.model.specs.Tables.{Divides, histories}
 use Rattle.model.specs.Ready.{Ready}
 use Rattle.model.specs.Machine.{State}
@@ -10,20 +8,23 @@ use Rattle.promise.specs.Answers.{Walked, Returns}
 use Rattle.bus.specs.Machines.{failure_note, state_of}
 use Rattle.bus.specs.declared.failure.Failure.{Failure}
 use Rattle.bus.specs.declared.machine.Machine.{Machine}
+use Rattle.bench.specs.declared.answer.Forecast as answer
+use Rattle.bench.specs.declared.answer.Forecast.TheVariants as answers
 use Rattle.bench.specs.declared.search.round.Round.{Round}
 
 -- the last instant of the machine
 abbrev pub machine_limit : ℕ
 machine_limit = 2199023255552
 
+-- what is foretold by the round or the failure that a search finds
+abbrev pub forecast_of : Result Round Failure → answer.Forecast
+forecast_of (Ok r) = answers.Holds r.from r.to
+forecast_of (Err f) = answers.Fails f
+
 -- r is whether x and y are the same
 abbrev pub Same : {X : Type 0} → Bool → X → X → Type 0
 Same true x y = x ≡ y
 Same false x y = x ≡ y → ⊥
-
--- the outcomes in a history, if there is one
-abbrev pub bits_in : Option History → Option ℕ
-bits_in o = option_map (λ h. h.bits) o
 
 -- a state at a boundary of its own schedule, with its hyper-period, from which a search does not come to the last instant of the machine
 pub record Searchable (s : State) (period : ℕ) : Type 0 where
@@ -46,10 +47,10 @@ module _ (before : Ready → Ready → Bool) (s : State) where
 
   -- histories stand again, soon enough
   abbrev pub RoundFound : Result Round Failure → Type 0
-  RoundFound (Ok r) = Returns before s r.at r.length × (r.at + r.length ≤ 3 * histories (table_of s))
+  RoundFound (Ok r) = Returns before s r.from (r.to - r.from) × (r.to ≤ 3 * histories (table_of s))
   RoundFound (Err f) = Fails before s (failure_note f)
 
-  -- the two boundaries with which the forecast holds
-  abbrev pub PairFound : Result (ℕ × ℕ) Failure → Type 0
-  PairFound (Ok p) = Holds before s p.0 p.1
-  PairFound (Err f) = Fails before s (failure_note f)
+  -- the forecast holds with the two boundaries of a round
+  abbrev pub EarliestFound : Result Round Failure → Type 0
+  EarliestFound (Ok r) = Holds before s r.from r.to
+  EarliestFound (Err f) = Fails before s (failure_note f)

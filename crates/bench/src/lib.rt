@@ -7,7 +7,6 @@ pub mod laid;
 mod measuring;
 pub mod running;
 mod search;
-mod telling;
 #[cfg(test)]
 mod tests;
 

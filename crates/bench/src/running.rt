@@ -17,9 +17,9 @@ mod working;
 // The bus has the streams of the table, and has not passed the last instant.
 #[derive(Drop)]
 pub struct Running<R: Rule> {
-    rule: R,
-    table: Table,
-    machine: Machine,
+    pub(crate) rule: R,
+    pub(crate) table: Table,
+    pub(crate) machine: Machine,
     ghost early: { (state_of machine).now ≤ last_instant },
     ghost same: { ∥ table_at (state_of machine) ≡ table_of table ∥₁ },
 }

@@ -2,31 +2,40 @@ use crate::Laid;
 use bus::{Del, Lower, Tally};
 use refusal::Refusal;
 use std::test::Fail;
+use streams::Numbers;
+
+// The six numbers of a stream in their order.
+fn numbers([period, deadline, service, m, k, history]: [u64; 6]) -> Numbers {
+    Numbers {
+        period,
+        deadline,
+        service,
+        m,
+        k,
+        history,
+    }
+}
 
 // The number of a refusal, or 0.
 fn number(answer: Result<(), Refusal>) -> u8 {
-    match answer {
-        Ok(()) => 0,
-        Err(refusal) => refusal.number(),
-    }
+    answer.err().map_or(0, Refusal::number)
 }
 
 // How many outcomes were met, missed and failures, or the number of the refusal.
 fn counts(answer: Result<Tally, Refusal>) -> Result<(u64, u64, u64), u8> {
-    match answer {
-        Ok(tally) => Ok((tally.met, tally.missed, tally.failures)),
-        Err(refusal) => Err(refusal.number()),
-    }
+    answer
+        .map(|told| (told.met, told.missed, told.failures))
+        .map_err(Refusal::number)
 }
 
 #[test]
 fn calls(rt: HostRuntime) {
     let mut laid = Laid::new(Lower);
     let answers = [
-        (number(laid.fit(8, 0, 0, 0, 0, 0, 0)), 1),
-        (number(laid.fit(0, 4, 4, 1, 1, 1, 2)), 7),
-        (number(laid.fit(0, 4, 4, 1, 1, 1, 1)), 0),
-        (number(laid.fit(0, 4, 4, 1, 1, 1, 1)), 20),
+        (number(laid.fit(8, numbers([0, 0, 0, 0, 0, 0]))), 1),
+        (number(laid.fit(0, numbers([4, 4, 1, 1, 1, 2]))), 7),
+        (number(laid.fit(0, numbers([4, 4, 1, 1, 1, 1]))), 0),
+        (number(laid.fit(0, numbers([4, 4, 1, 1, 1, 1]))), 20),
         (number(laid.pull(1)), 21),
         (number(laid.prime(0, 2)), 7),
         (number(laid.prime(0, 0)), 0),
@@ -50,13 +59,12 @@ fn calls(rt: HostRuntime) {
 #[test]
 fn first_of_an_advance(rt: HostRuntime) -> Result<(), Fail> {
     let mut laid = Laid::new(Del::default());
-    laid.fit(0, 4, 4, 1, 2, 4, 0b1111)?;
-    laid.fit(1, 10, 10, 8, 3, 4, 0b1111)?;
-    match laid.start().advance(20)?.first {
-        Some(first) => {
-            assert_eq!(rt; (first.slot, first.frame, first.instant), (0, 4, 16));
-            Ok(())
-        },
-        None => Err(Fail::new("no failure")),
-    }
+    laid.fit(0, numbers([4, 4, 1, 2, 4, 0b1111]))?;
+    laid.fit(1, numbers([10, 10, 8, 3, 4, 0b1111]))?;
+    let first = laid.start().advance(20)?.first;
+    assert_eq!(rt;
+        first.map(|first| (first.slot, first.frame, first.instant)),
+        Some((0, 4, 16))
+    );
+    Ok(())
 }

@@ -1,7 +1,9 @@
 -- A table of the code is lawful, and so is sound at its start. Assumes nothing.
-use Rattle.std.proofs.Common.{◌≡◌, ℕ, zero, suc, ◌+◌, ◌<◌, ◌≤◌, List, [], ◌∷◌, map, length, get_or, set, Some, None, Option, sym, ap, ◌∙◌, subst, arith}
-use Rattle.std.proofs.lemmas.List.Edits.{fill_by_more}
-use Rattle.std.proofs.lemmas.List.{length-map, length-set, map-set, ext_get_or}
+use Rattle.std.proofs.Common.{◌≡◌, ℕ, zero, suc, ◌+◌, ◌<◌, ◌≤◌, List, [], ◌∷◌, map, length, get_or, Some, None, Option, sym, ◌∙◌, subst, ⊎_elim, arith}
+use Rattle.std.proofs.lemmas.Bool.{cases_eq}
+use Rattle.std.proofs.lemmas.List.{length-map, get_or-map, ext_get_or}
+use Rattle.std.specs.Array.{IsFromFnResult, IsFromFnResultFrom}
+use Rattle.std.specs.Fn.{Called, Mut}
 use Rattle.std.specs.Option.{option_map}
 use Rattle.laws.specs.Sound.{LawfulStream, LawfulTable, Sound}
 use Rattle.laws.proofs.Running.{table_sound}
@@ -44,29 +46,31 @@ lawful_table t = record { eight = eight_slots t; streams = lawful_slots t.slots 
 pub started_table : (t : Table) (s : model.State) → s ≡ started (table_of t) → Sound s
 started_table t s e = subst Sound (sym e) (table_sound (table_of t) (lawful_table t))
 
--- ---- the rows of a table at its start, written one after the other
+-- ---- an array made by a closure that a call leaves as it was, and of whose answers something is known
 
--- the first i rows are those of the table at its start
-pub record Filled (t : Table) (rows : List (Option Row)) (i : ℕ) : Type 0 where
-  pub eight : length rows ≡ 8
-  pub filled : (k : ℕ) → k < i → get_or (rows_of rows) k None ≡ option_map fresh (get_or (table_of t) k None)
+module _ {F B : Type 0} (g : Mut F (ℕ × Unit {0}) B) (f : F) (P : ℕ → B → Type 0) where
+  answered :
+      (ys : List B) (n i : ℕ) → ((k : ℕ) (y : B) (q : F) → k < i + n → Called g f (k, tt) y q → (q ≡ f) × P k y)
+      → IsFromFnResultFrom g f ys i n → (k : ℕ) → i ≤ k → k < i + n → (d : B) → P k (get_or ys k d)
+  answered ys zero i each made k low high d = absurd (omega arith)
+  answered ys (suc n) i each made k low high d =
+      let here : (made.0 ≡ f) × P i made.1 = each i made.1 made.0 (omega arith) made.3 in
+      ⊎_elim
+      (λ e. subst (λ (m : ℕ). P m (get_or ys m d)) e (subst (P i) (sym (made.2.1 d)) here.1))
+      (λ ne.
+      answered ys n (i + 1) (λ m y q below. each m y q (omega arith)) (subst (λ x. IsFromFnResultFrom g x ys (i + 1) n) here.0 made.4) k (omega arith) (omega arith) d)
+      (cases_eq i k)
 
-module _ (t : Table) (rows : List (Option Row)) (i : ℕ) where
-  pub filled_more : (o : Option model-streams.Stream) (y : Option Row) → i < length rows → o ≡ get_or (table_of t) i None → option_map row_of y ≡ option_map fresh o
-      → Filled t rows i → Filled t (set rows i y) (i + 1)
-  filled_more o y within read made h =
-      let f : ℕ → Option model.Row = λ k. option_map fresh (get_or (table_of t) k None) in
-      let written : rows_of (set rows i y) ≡ set (rows_of rows) i (f i) =
-      map-set (option_map row_of) rows i y ∙ ap (set (rows_of rows) i) (made ∙ ap (option_map fresh) read) in
-      record {
-        eight = length-set rows i y ∙ h.eight;
-        filled = λ k low.
-            ap (λ l. get_or l k None) written
-            ∙ fill_by_more f (rows_of rows) i None (omega (arith, length-map rows (option_map row_of))) h.filled k low;
-      }
-
-  pub filled_all : 8 ≤ i → Filled t rows i → rows_of rows ≡ map (option_map fresh) (table_of t)
-  filled_all past h =
-      ext_get_or None (rows_of rows) (map (option_map fresh) (table_of t))
-      (length-map rows (option_map row_of) ∙ h.eight ∙ sym (length-map (table_of t) (option_map fresh) ∙ eight_slots t))
-      (λ k low. h.filled k (omega (arith, h.eight, length-map rows (option_map row_of))) ∙ sym (get_or_mapped fresh (table_of t) k))
+-- the rows of a table at its start
+pub started_rows :
+    {F : Type 0} (g : Mut F (ℕ × Unit {0}) (Option Row)) (f : F) (t : Table) (rows : List (Option Row))
+    → ((k : ℕ) (y : Option Row) (q : F) → k < 8 → Called g f (k, tt) y q → (q ≡ f) × (option_map row_of y ≡ option_map fresh (get_or (table_of t) k None)))
+    → IsFromFnResult g f rows 8 → rows_of rows ≡ map (option_map fresh) (table_of t)
+started_rows g f t rows each made =
+    ext_get_or None (rows_of rows) (map (option_map fresh) (table_of t))
+    (length-map rows (option_map row_of) ∙ made.long ∙ sym (length-map (table_of t) (option_map fresh) ∙ eight_slots t))
+    (λ k low.
+    let within : k < length rows = omega (arith, length-map rows (option_map row_of)) in
+    get_or-map (option_map row_of) rows k None None within
+    ∙ answered g f (λ k y. option_map row_of y ≡ option_map fresh (get_or (table_of t) k None)) rows 8 0 each made.each k (omega arith) (omega (arith, made.long)) None
+    ∙ sym (get_or_mapped fresh (table_of t) k))

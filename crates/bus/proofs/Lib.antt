@@ -3,7 +3,6 @@ pub mod Frames
 pub mod Leading
 pub mod Walking
 pub mod Writing
-pub mod Gathering
 pub mod Choosing
 pub mod Starting
 pub mod Busy

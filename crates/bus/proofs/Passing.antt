@@ -3,14 +3,13 @@ use Rattle.std.proofs.Common.{◌≡◌, ℕ, Bool, List, ◌++◌, map, get_or,
 use mathlib.Core.Logic.{∥∥₁_elim}
 use native.Mathlib.Bridge.{le_prop}
 use Rattle.laws.specs.Sound.{Sound}
-use Rattle.laws.proofs.Keeping.{release_sound, start_now, begun_now, leave_now}
+use Rattle.laws.proofs.Keeping.{release_sound, start_now}
 use Rattle.model.specs.Machine.{Row, State, release, start, mark, tick, leave, drop, begun, unit, arrivals, drops, outcomes}
 use Rattle.model.specs.Ready.{Ready}
 use Rattle.model.specs.Tally.{Tally, tally}
-use Rattle.bus.specs.Endings.{ended_of}
-use Rattle.bus.specs.Fews.{listed}
+use Rattle.bus.specs.Tallies.{together}
 use Rattle.bus.specs.Waiting.{SendableIn, AllSendable}
-use Rattle.bus.specs.declared.machine.ended.Ended.{Ended}
+use Rattle.bus.proofs.Telling.{tally_together}
 
 -- after its releases, every waiting frame of a sound state can be sent
 module _ (s : State) (sound : ∥ Sound s ∥₁) where
@@ -52,28 +51,13 @@ module _ (before : Ready → Ready → Bool) (noisy : Bool) (s s1 s2 s3 s4 s5 s6
   unfolding unit
   passed_unit = p.dropped ∙ ap drop after_leaving
 
-  -- the instants after steps 4, 5 and 6 are one
-  left_now : s5.now ≡ s4.now
-  left_now = ap (λ (x : State). x.now) after_leaving ∙ leave_now before noisy s ∙ sym (ap (λ (x : State). x.now) before_leaving ∙ begun_now before noisy s)
-
-  dropped_now : s6.now ≡ s5.now
-  unfolding drop
-  dropped_now = ap (λ (x : State). x.now) p.dropped
-
-  passed_outcomes :
-      (arrived : Option Ended) (ended : List Ended) → map (ended_of s4.now) (listed arrived) ≡ arrivals s4
-      → map (ended_of s5.now) ended ≡ map (ended_of s5.now) (listed arrived) ++ drops s5.now 0 s5.rows
-      → map (ended_of s6.now) ended ≡ outcomes before noisy s
-  unfolding outcomes
-  passed_outcomes arrived ended arrives gives =
-      ap (λ u. map (ended_of u) ended) dropped_now
-      ∙ gives
-      ∙ ap (λ u. map (ended_of u) (listed arrived) ++ drops s5.now 0 s5.rows) left_now
-      ∙ ap (λ l. l ++ drops s5.now 0 s5.rows) (arrives ∙ ap arrivals before_leaving)
-      ∙ ap (λ (x : State). arrivals (begun before noisy s) ++ drops x.now 0 x.rows) after_leaving
-
+  -- what is told of step 5 and of step 6 is what is told of the unit
   pub passed_tally :
-      (t : Tally) (arrived : Option Ended) (ended : List Ended) → map (ended_of s4.now) (listed arrived) ≡ arrivals s4
-      → map (ended_of s5.now) ended ≡ map (ended_of s5.now) (listed arrived) ++ drops s5.now 0 s5.rows
-      → t ≡ tally (map (ended_of s6.now) ended) → t ≡ tally (outcomes before noisy s)
-  passed_tally t arrived ended arrives gives told = told ∙ ap tally (passed_outcomes arrived ended arrives gives)
+      (t arrived : Tally) → arrived ≡ tally (arrivals s4) → t ≡ together arrived (tally (drops s5.now 0 s5.rows))
+      → t ≡ tally (outcomes before noisy s)
+  unfolding outcomes
+  passed_tally t arrived one all =
+      all
+      ∙ ap (λ a. together a (tally (drops s5.now 0 s5.rows))) (one ∙ ap (λ x. tally (arrivals x)) before_leaving)
+      ∙ ap (λ (x : State). together (tally (arrivals (begun before noisy s))) (tally (drops x.now 0 x.rows))) after_leaving
+      ∙ sym (tally_together (arrivals (begun before noisy s)) _)

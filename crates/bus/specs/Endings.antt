@@ -1,24 +1,26 @@
--- What the outcome of a frame stands for, the outcomes of one slot, and the failures among them. Assumes nothing.
-use Rattle.std.specs.Prelude.{ℕ, Bool, List, [], ◌∷◌, ◌++◌, Some, None, Option}
-use Rattle.model.specs.Machine as model
-use Rattle.model.specs.Tally.{Failure, failure_of}
-use Rattle.bus.specs.Fews.{listed}
+-- How a frame ended, and what is told of it. Assumes nothing.
+use Rattle.std.specs.Prelude.{ℕ, ◌≤◌, Bool, true, false, cond, not, is_some, Some, None, Option}
+use Rattle.std.specs.Option.{option_map}
+use Rattle.firm.specs.declared.outcome.Outcome.{Outcome}
+use Rattle.firm.specs.declared.outcome.Outcome.TheVariants.{Met, Missed}
+use Rattle.model.specs.Tally.{Tally}
+use Rattle.bus.specs.Machines.{failure_note}
 use Rattle.bus.specs.declared.machine.ended.Ended.{Ended}
 
--- the outcome of a frame that ended at an instant
-abbrev pub ended_of : ℕ → Ended → model.Outcome
-ended_of u e = record { slot = e.slot; frame = e.frame; instant = u; met = e.met; failure = e.failure }
+abbrev pub is_met : Outcome → Bool
+is_met Met = true
+is_met Missed = false
 
--- how frame j of slot i ends, met or missed, from the row before it
-abbrev pub ending : ℕ → ℕ → Bool → model.Row → Ended
-ending i j met r = record { slot = i; frame = j; met = met; failure = model.failing (model.with_outcome met r) }
+-- what is told of a frame that has ended, or of none
+abbrev pub told_of : Option Ended → Tally
+told_of None = record { met = 0; missed = 0; failures = 0; first = None }
+told_of (Some e) = record {
+  met = cond (is_met e.outcome) 1 0;
+  missed = cond (is_met e.outcome) 0 1;
+  failures = cond (is_some e.failure) 1 0;
+  first = option_map failure_note e.failure;
+}
 
--- the outcome of the waiting frame of slot i, if it is dropped at an instant
-abbrev pub dropped_in : ℕ → ℕ → Option model.Row → List model.Outcome
-dropped_in u i None = []
-dropped_in u i (Some r) = model.dropped u i r.waits r
-
--- the dynamic failures among some outcomes, in their order
-abbrev pub failed : List model.Outcome → List Failure
-failed [] = []
-failed (o ∷ os) = listed (failure_of o) ++ failed os
+-- no count is above n
+abbrev pub AtMost : ℕ → Tally → Type 0
+AtMost n t = (t.met ≤ n) × (t.missed ≤ n) × (t.failures ≤ n)

@@ -12,7 +12,6 @@ pub mod Rows
 pub mod States
 pub mod Machines
 -- the machine, inside
-pub mod Fews
-pub mod Leaders
 pub mod Waiting
 pub mod Endings
+pub mod Tallies

@@ -1,5 +1,5 @@
 -- What a slot of the code and its frame in transit stand for. Assumes nothing.
-use Rattle.std.specs.Prelude.{◌≡◌, Bool, true, false, List, map, Option}
+use Rattle.std.specs.Prelude.{List, map, Option}
 use Rattle.std.specs.Option.{option_map}
 use Rattle.streams.specs.Stands.{stream_of}
 use Rattle.model.specs.Machine as model
@@ -8,11 +8,6 @@ use Rattle.bus.specs.declared.machine.transit.Transit.{Transit}
 
 abbrev pub row_of : Row → model.Row
 row_of r = record { stream = stream_of r.stream; bits = r.history.bits; waits = r.waits }
-
--- where the answer is no, a change leaves a slot as it is
-abbrev pub Changes : Bool → (model.Row → model.Row) → Option model.Row → Type 0
-Changes true f o = Unit {0}
-Changes false f o = option_map f o ≡ o
 
 abbrev pub rows_of : List (Option Row) → model.Rows
 rows_of rows = map (option_map row_of) rows

@@ -6,7 +6,6 @@ use crate::machine::state::State;
 mod busy;
 mod candidate;
 mod ended;
-mod few;
 mod making;
 mod reading;
 mod row;

@@ -2,6 +2,7 @@ use crate::bottoms::{Higher, Lower};
 use crate::keys::{Distance, Period, Restoring, SlotRank, TimeLeft};
 use crate::layers::{Key, Layer};
 use crate::named::{Deh, Del, Dml, Drel, El, Ml};
+use crate::tests::{FIRST, LATEST, NONE, OLDEST, ONE, SECOND, TIE, TIE_BACK};
 use crate::{Failure, Machine, Rule, first_failure};
 use std::process::Abort;
 use std::test::Fail;
@@ -65,23 +66,6 @@ fn by_named(rt: &impl Abort, pair: [Placed; 2]) -> Result<[bool; 6], Fail> {
         is_sent_first(rt, &Ml::default(), pair)?,
     ])
 }
-
-// Distance 1 and 3, and two of distance 0 with restoring distance 2 and 1.
-const OLDEST: u64 = 0b1100;
-
-const LATEST: u64 = 0b0011;
-
-const NONE: u64 = 0b0000;
-
-const ONE: u64 = 0b0001;
-
-const FIRST: [bool; 2] = [true, true];
-
-const SECOND: [bool; 2] = [false, false];
-
-const TIE: [bool; 2] = [true, false];
-
-const TIE_BACK: [bool; 2] = [false, true];
 
 // Two streams; which of them the keys D, R, E, M and K send first; and whether the first is sent before the second
 // by Del, Deh, Dml, Drel, El and Ml.

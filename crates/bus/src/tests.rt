@@ -56,21 +56,21 @@ fn by_named([a, b]: [ReadyFrame; 2]) -> [bool; 6] {
 }
 
 // Distance 1 and 3, and two of distance 0 with restoring distance 2 and 1.
-const OLDEST: u64 = 0b1100;
+pub(crate) const OLDEST: u64 = 0b1100;
 
-const LATEST: u64 = 0b0011;
+pub(crate) const LATEST: u64 = 0b0011;
 
-const NONE: u64 = 0b0000;
+pub(crate) const NONE: u64 = 0b0000;
 
-const ONE: u64 = 0b0001;
+pub(crate) const ONE: u64 = 0b0001;
 
-const FIRST: [bool; 2] = [true, true];
+pub(crate) const FIRST: [bool; 2] = [true, true];
 
-const SECOND: [bool; 2] = [false, false];
+pub(crate) const SECOND: [bool; 2] = [false, false];
 
-const TIE: [bool; 2] = [true, false];
+pub(crate) const TIE: [bool; 2] = [true, false];
 
-const TIE_BACK: [bool; 2] = [false, true];
+pub(crate) const TIE_BACK: [bool; 2] = [false, true];
 
 // Two frames; which of them the keys D, R, E, M and K put first; and whether the first goes before the second
 // by Del, Deh, Dml, Drel, El and Ml.

@@ -10,7 +10,7 @@ use Rattle.replay.specs.declared.call.Call.{Call}
 use Rattle.replay.specs.declared.call.Call.TheVariants.{Fit, Pull, Prime, Load, Start, Advance, Disturb, Stop}
 
 abbrev pub call_of : Call → model.Call
-call_of (Fit slot period deadline service m k history) = fit slot period deadline service m k history
+call_of (Fit slot n) = fit slot n.period n.deadline n.service n.m n.k n.history
 call_of (Pull slot) = pull slot
 call_of (Prime slot history) = prime slot history
 call_of (Load file) = load file.now

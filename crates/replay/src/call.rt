@@ -1,29 +1,14 @@
+use streams::Numbers;
+
 // A call of a bench with its arguments.
 #[derive(Clone, Copy)]
 pub enum Call<'a> {
-    Fit {
-        slot: u64,
-        period: u64,
-        deadline: u64,
-        service: u64,
-        m: u64,
-        k: u64,
-        history: u64,
-    },
-    Pull {
-        slot: u64,
-    },
-    Prime {
-        slot: u64,
-        history: u64,
-    },
-    Load {
-        file: &'a [u8],
-    },
+    Fit { slot: u64, numbers: Numbers },
+    Pull { slot: u64 },
+    Prime { slot: u64, history: u64 },
+    Load { file: &'a [u8] },
     Start,
-    Advance {
-        units: u64,
-    },
+    Advance { units: u64 },
     Disturb,
     Stop,
 }

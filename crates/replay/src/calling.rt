@@ -41,33 +41,22 @@ fn call_laid<R: Rule + Drop>(mut bench: Laid<R>, call: &Call) -> Option<Bench<R>
     ensures rule { IfSome result (λ b. rule_in b ≡ bench.rule) }
 {
     match call {
-        Call::Fit {
-            slot,
-            period,
-            deadline,
-            service,
-            m,
-            k,
-            history,
-        } => {
-            let _ = bench.fit(*slot, *period, *deadline, *service, *m, *k, *history);
-            Some(Bench::Laid(bench))
+        Call::Fit { slot, numbers } => {
+            let _ = bench.fit(*slot, *numbers);
         }
         Call::Pull { slot } => {
             let _ = bench.pull(*slot);
-            Some(Bench::Laid(bench))
         }
         Call::Prime { slot, history } => {
             let _ = bench.prime(*slot, *history);
-            Some(Bench::Laid(bench))
         }
         Call::Load { file } => {
             let _ = bench.load(file);
-            Some(Bench::Laid(bench))
         }
-        Call::Start => Some(Bench::Running(bench.start())),
-        Call::Advance { .. } | Call::Disturb | Call::Stop => None,
+        Call::Start => return Some(Bench::Running(bench.start())),
+        Call::Advance { .. } | Call::Disturb | Call::Stop => return None,
     }
+    Some(Bench::Laid(bench))
 }
 
 // Works a call on a running bench.
@@ -78,13 +67,12 @@ fn call_running<R: Rule + Drop>(mut bench: Running<R>, call: &Call) -> Option<Be
     match call {
         Call::Advance { units } => {
             let _ = bench.advance(*units);
-            Some(Bench::Running(bench))
         }
         Call::Disturb => {
             let _ = bench.disturb();
-            Some(Bench::Running(bench))
         }
-        Call::Stop => Some(Bench::Laid(bench.stop())),
-        _ => None,
+        Call::Stop => return Some(Bench::Laid(bench.stop())),
+        _ => return None,
     }
+    Some(Bench::Running(bench))
 }

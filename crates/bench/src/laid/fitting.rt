@@ -24,32 +24,15 @@ impl<R: Rule> Laid<R> {
 
     // Puts a stream by its numbers into a slot, or gives the first refusal: the slot above 7, those of the stream's numbers,
     // the slot taken, the hyper-period above its limit, the number of histories above its limit.
-    pub fn fit(
-        &mut self,
-        slot: u64,
-        period: u64,
-        deadline: u64,
-        service: u64,
-        m: u64,
-        k: u64,
-        history: u64,
-    ) -> Result<(), Refusal>
-        ensures answer { result ≡ done (fitted (table_in self.old) slot period deadline service m k history) }
-        ensures table { table_in self.new ≡ kept (table_in self.old) (fitted (table_in self.old) slot period deadline service m k history) }
+    pub fn fit(&mut self, slot: u64, numbers: Numbers) -> Result<(), Refusal>
+        ensures answer { result ≡ done (fitted (table_in self.old) slot numbers.period numbers.deadline numbers.service numbers.m numbers.k numbers.history) }
+        ensures table { table_in self.new ≡ kept (table_in self.old) (fitted (table_in self.old) slot numbers.period numbers.deadline numbers.service numbers.m numbers.k numbers.history) }
         ensures rule { self.new.rule ≡ self.old.rule }
     {
         if slot > 7 {
             return Err(Refusal::SlotRange);
         }
-        let stream = Stream::new(Numbers {
-            period,
-            deadline,
-            service,
-            m,
-            k,
-            history,
-        })?;
-        self.table = self.table.with(slot, stream)?;
+        self.table = self.table.with(slot, Stream::new(numbers)?)?;
         Ok(())
     }
 

@@ -1,6 +1,6 @@
 ghost use Rattle.std.specs.Prelude.{◌≡◌, ◌-◌, ◌%◌, ◌<◌};
 ghost use Rattle.bench.specs.Answers.{answer_of};
-ghost use Rattle.bench.specs.Searches.{FirstFound, PairFound};
+ghost use Rattle.bench.specs.Searches.{EarliestFound, FirstFound};
 ghost use Rattle.bench.specs.Stands.{state_in};
 ghost use Rattle.model.specs.Forecast.{Tells};
 ghost use Rattle.model.specs.Tables.{hyper_period};
@@ -8,9 +8,7 @@ ghost use Rattle.streams.specs.Tables.{table_of};
 
 use crate::answer::Forecast;
 use crate::running::Running;
-use crate::search::beginning::beginning;
-use crate::search::returning::returning;
-use crate::search::walking::walk;
+use crate::search::round::Round;
 use bus::{Failure, Machine, Rule};
 
 // How many units lie between an instant and the first boundary not below it.
@@ -22,25 +20,30 @@ pub(super) fn units_to_boundary(instant: u64, period: u64) -> u64
 }
 
 impl<R: Rule> Running<R> {
-    // The bus at the first boundary, or the first failure before it.
-    fn first_boundary(&self, period: u64) -> Result<Machine, Failure>
-        requires { period ≡ hyper_period (table_of self.now.table) }
-        ensures { FirstFound (R.before self.now.rule) (state_in self.now) period result }
+    // The hyper-period: so many units lie between two boundaries.
+    pub(crate) fn period(&self) -> u64
+        ensures { result ≡ hyper_period (table_of self.now.table) }
     {
-        let mut first = self.machine;
-        let units = units_to_boundary(first.now(), period);
-        walk(&mut first, &self.rule, units)?;
-        Ok(first)
+        u64::from(self.table.hyper_period())
     }
 
-    // The two boundaries with which the forecast holds, or the first failure.
-    pub(super) fn search(&self) -> Result<(u64, u64), Failure>
-        ensures { PairFound (R.before self.now.rule) (state_in self.now) result }
+    // The bus at the first boundary, or the first failure before it.
+    fn first_boundary(&self) -> Result<Machine, Failure>
+        ensures { FirstFound (R.before self.now.rule) (state_in self.now) (hyper_period (table_of self.now.table)) result }
     {
-        let period = u64::from(self.table.hyper_period());
-        let first = self.first_boundary(period)?;
-        let round = returning(first, &self.rule, period)?;
-        beginning(first, &self.rule, period, round)
+        let mut bus = self.machine;
+        let units = units_to_boundary(bus.now(), self.period());
+        self.walk(&mut bus, units)?;
+        Ok(bus)
+    }
+
+    // The round with which the forecast holds, or the first failure.
+    pub(super) fn search(&self) -> Result<Round, Failure>
+        ensures { EarliestFound (R.before self.now.rule) (state_in self.now) result }
+    {
+        let first = self.first_boundary()?;
+        let round = self.round(first)?;
+        self.earliest_round(first, round)
     }
 
     // What is foretold of the quiet schedule from here: that it never has a dynamic failure, with the only two boundaries up to the later at
@@ -48,9 +51,6 @@ impl<R: Rule> Running<R> {
     pub fn forecast(&self) -> Forecast
         ensures { Tells (R.before self.now.rule) (state_in self.now) (answer_of result) }
     {
-        match self.search() {
-            Ok((from, to)) => Forecast::Holds { from, to },
-            Err(failure) => Forecast::Fails(failure),
-        }
+        self.search().into()
     }
 }

@@ -1,11 +1,10 @@
-ghost use Rattle.std.specs.Prelude.{◌≡◌, ◌+◌, ◌≤◌, false, replicate, Ok};
+ghost use Rattle.std.specs.Prelude.{◌≡◌, ◌+◌, ◌≤◌, false, replicate};
 ghost use Rattle.bench.specs.Stands.{state_in};
 ghost use Rattle.bus.specs.Machines.{state_of, tally_of};
 ghost use Rattle.model.specs.Bench.{advanced, disturbed, last_instant, state_after, tally_after, worked};
 ghost use Rattle.refusal.specs.Tests.{kept, on_ok};
 
 use crate::running::Running;
-use crate::telling::{nothing, together};
 use bus::{Machine, Rule, Tally};
 use refusal::Refusal;
 
@@ -29,7 +28,10 @@ impl<R: Rule> Running<R> {
         if self.machine.now() + units > LAST_INSTANT {
             return Err(Refusal::InstantLimit);
         }
-        quiet_units(&mut self.machine, &self.rule, units)
+        let mut bus = self.machine;
+        let told = self.quiet_units(&mut bus, units);
+        self.machine = bus;
+        Ok(told)
     }
 
     // Works one noisy unit and tells of its outcomes, or refuses an instant above its limit.
@@ -44,18 +46,19 @@ impl<R: Rule> Running<R> {
         }
         self.machine.unit(&self.rule, true)
     }
-}
 
-// Works quiet units, none of which passes the last instant, and tells of their outcomes.
-fn quiet_units<R: Rule>(machine: &mut Machine, rule: &R, units: u64) -> Result<Tally, Refusal>
-    requires few { units ≤ 65535 }
-    requires early { (state_of machine.old).now + units ≤ last_instant }
-    ensures answer { on_ok tally_of result ≡ Ok (worked (R.before rule.now) (state_of machine.old) (replicate units false)).told }
-    ensures state { state_of machine.new ≡ (worked (R.before rule.now) (state_of machine.old) (replicate units false)).state }
-{
-    let mut told = nothing();
-    for _ in 0..units {
-        told = together(told, machine.unit(rule, false)?);
+    // Works quiet units of a bus, none of which passes the last instant, and tells of their outcomes.
+    // A loop of its own: a walk ends at the first failure and adds nothing up.
+    fn quiet_units(&self, bus: &mut Machine, units: u64) -> Tally
+        requires few { units ≤ 65535 }
+        requires early { (state_of bus.old).now + units ≤ last_instant }
+        ensures told { tally_of result ≡ (worked (R.before self.now.rule) (state_of bus.old) (replicate units false)).told }
+        ensures state { state_of bus.new ≡ (worked (R.before self.now.rule) (state_of bus.old) (replicate units false)).state }
+    {
+        let mut told = Tally::nothing();
+        for _ in 0..units {
+            told = told.together(self.quiet_unit(bus));
+        }
+        told
     }
-    Ok(told)
 }

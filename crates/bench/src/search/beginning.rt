@@ -1,37 +1,38 @@
-ghost use Rattle.std.specs.Prelude.{◌+◌, ◌*◌, ◌≤◌};
-ghost use Rattle.bench.specs.Searches.{Searchable, PairFound};
+ghost use Rattle.std.specs.Prelude.{◌-◌, ◌*◌, ◌≤◌};
+ghost use Rattle.bench.specs.Searches.{EarliestFound, Searchable};
 ghost use Rattle.bus.specs.Machines.{state_of};
 ghost use Rattle.model.specs.Forecast.{table_of};
-ghost use Rattle.model.specs.Tables.{histories};
+ghost use Rattle.model.specs.Tables.{histories, hyper_period};
 ghost use Rattle.promise.specs.Answers.{Returns};
+ghost use Rattle.streams.specs.Tables.{table_of as streams_of};
 
+use crate::running::Running;
 use crate::search::agreeing::agree;
 use crate::search::round::Round;
-use crate::search::walking::walk;
 use bus::{Failure, Machine, Rule};
 
-// The first boundary whose histories stand again as many boundaries later as those of a boundary that is known to, and the boundary where
-// they do: two walkers that far apart go on until their histories agree.
-pub(crate) fn beginning<R: Rule>(
-    first: Machine,
-    rule: &R,
-    period: u64,
-    round: Round,
-) -> Result<(u64, u64), Failure>
-    requires state { Searchable (state_of first) period }
-    requires returns { Returns (R.before rule.now) (state_of first) round.at round.length }
-    requires soon { round.at + round.length ≤ 3 * histories (table_of (state_of first)) }
-    ensures { PairFound (R.before rule.now) (state_of first) result }
-{
-    let mut near = first;
-    let mut far = first;
-    walk(&mut far, rule, round.length * period)?;
-    for start in 0..round.at {
-        if agree(&near, &far) {
-            return Ok((start, start + round.length));
+impl<R: Rule> Running<R> {
+    // The earliest round that is as long as one that is known, from a bus at a boundary: two walkers that far apart go on until their
+    // histories agree. A loop and not a chain: both go on with each boundary, and the first failure ends it.
+    pub(crate) fn earliest_round(&self, first: Machine, known: Round) -> Result<Round, Failure>
+        requires state { Searchable (state_of first) (hyper_period (streams_of self.now.table)) }
+        requires returns { Returns (R.before self.now.rule) (state_of first) known.from (known.to - known.from) }
+        requires soon { known.to ≤ 3 * histories (table_of (state_of first)) }
+        ensures { EarliestFound (R.before self.now.rule) (state_of first) result }
+    {
+        let period = self.period();
+        let length = known.to - known.from;
+        let mut near = first;
+        let mut far = first;
+        self.walk(&mut far, length * period)?;
+        for from in 0..known.from {
+            if agree(&near, &far) {
+                let to = from + length;
+                return Ok(Round { from, to });
+            }
+            self.walk(&mut near, period)?;
+            self.walk(&mut far, period)?;
         }
-        walk(&mut near, rule, period)?;
-        walk(&mut far, rule, period)?;
+        Ok(known)
     }
-    Ok((round.at, round.at + round.length))
 }

@@ -1,31 +1,38 @@
 ghost use Rattle.bench.specs.Searches.{RoundFound, Searchable};
 ghost use Rattle.bus.specs.Machines.{state_of};
+ghost use Rattle.model.specs.Tables.{hyper_period};
+ghost use Rattle.streams.specs.Tables.{table_of as streams_of};
 
+use crate::running::Running;
 use crate::search::agreeing::agree;
 use crate::search::round::Round;
-use crate::search::walking::walk;
 use bus::{Failure, Machine, Rule};
 
-// The least number of boundaries after which histories stand again, found from some boundary: the histories of one boundary are kept and
-// compared with those of the boundaries after it, twice as many each time. It ends at the first failure.
-pub(crate) fn returning<R: Rule>(first: Machine, rule: &R, period: u64) -> Result<Round, Failure>
-    requires { Searchable (state_of first) period }
-    ensures { RoundFound (R.before rule.now) (state_of first) result }
-{
-    let mut kept = first;
-    let mut walker = first;
-    let mut at = 0;
-    let mut length = 0;
-    loop {
-        walk(&mut walker, rule, period)?;
-        length += 1;
-        if agree(&kept, &walker) {
-            return Ok(Round { at, length });
+// Histories stand again before this boundary.
+const LAST_BOUNDARY: u64 = 3145728;
+
+impl<R: Rule> Running<R> {
+    // A round of the least length, from a bus at a boundary: the histories of one boundary are kept and compared with those of the
+    // boundaries after it, twice as many each time. It ends at the first failure.
+    // A loop and not a chain: the walker goes on with each boundary.
+    pub(crate) fn round(&self, first: Machine) -> Result<Round, Failure>
+        requires { Searchable (state_of first) (hyper_period (streams_of self.now.table)) }
+        ensures { RoundFound (R.before self.now.rule) (state_of first) result }
+    {
+        let period = self.period();
+        let mut kept = first;
+        let mut from = 0;
+        let mut walker = first;
+        for to in 1..=LAST_BOUNDARY {
+            self.walk(&mut walker, period)?;
+            if agree(&kept, &walker) {
+                return Ok(Round { from, to });
+            }
+            if to > 2 * from {
+                kept = walker;
+                from = to;
+            }
         }
-        if length > at {
-            kept = walker;
-            at += length;
-            length = 0;
-        }
+        unreachable!()
     }
 }

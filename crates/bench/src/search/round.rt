@@ -1,6 +1,6 @@
-// The histories at boundary `at` stand again `length` boundaries later.
+// The histories at boundary `from` stand again at boundary `to`.
 #[derive(Clone, Copy)]
 pub(crate) struct Round {
-    pub(crate) at: u64,
-    pub(crate) length: u64,
+    pub(crate) from: u64,
+    pub(crate) to: u64,
 }

@@ -1,8 +1,9 @@
-// How a frame ended in a unit: its slot and number, whether it has met, and whether that is a dynamic failure.
+use crate::failure::Failure;
+use firm::Outcome;
+
+// How a frame ended, and the dynamic failure that this is, if it is one.
 #[derive(Clone, Copy)]
 pub(crate) struct Ended {
-    pub(crate) slot: u8,
-    pub(crate) frame: u64,
-    pub(crate) met: bool,
-    pub(crate) failure: bool,
+    pub(crate) outcome: Outcome,
+    pub(crate) failure: Option<Failure>,
 }

@@ -5,7 +5,6 @@ ghost use Rattle.model.specs.Machine.{history_of};
 ghost use Rattle.std.specs.Option.{option_map};
 
 use crate::machine::Machine;
-use crate::machine::row::waiting::history_in;
 use firm::History;
 
 impl Machine {
@@ -28,7 +27,7 @@ impl Machine {
         ensures { option_map firm_of result ≡ option_map history_of (slice_index_or (state_of self.now).rows slot None) }
     {
         if slot < 8 {
-            history_in(self.state.rows[slot as usize])
+            self.state.rows[slot as usize].map(|row| row.history())
         } else {
             None
         }

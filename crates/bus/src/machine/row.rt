@@ -4,11 +4,11 @@ ghost use Rattle.bus.specs.Frames.{number};
 use firm::History;
 use streams::Stream;
 
-mod changing;
-pub(crate) mod ending;
-pub(crate) mod stepping;
+mod ending;
+mod making;
+mod stepping;
 mod timing;
-pub(crate) mod waiting;
+mod waiting;
 
 // An occupied slot: its stream, its history as it stands, and the number of its waiting frame, if any.
 #[derive(Clone, Copy)]

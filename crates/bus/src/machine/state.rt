@@ -8,7 +8,6 @@ mod in_transit;
 mod making;
 mod passing;
 mod starting;
-mod telling;
 
 // The bus at an instant: eight slots, each empty or with a row, and the frame in transit, if any.
 #[derive(Clone, Copy)]

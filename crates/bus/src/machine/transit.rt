@@ -1,6 +1,6 @@
 ghost use Rattle.std.specs.Prelude.{◌≤◌};
 
-pub(crate) mod marking;
+mod marking;
 
 // The frame in transit: slot and number, the instant at which it leaves, and whether noise has hit it.
 #[derive(Clone, Copy)]

@@ -1,30 +1,31 @@
-ghost use Rattle.std.specs.Prelude.{◌≡◌, ◌^◌, ◌≤◌};
-ghost use Rattle.model.specs.Machine.{born, due, hopeless};
-ghost use Rattle.streams.specs.Stands.{stream_of};
+ghost use Rattle.std.specs.Prelude.{◌≡◌, ◌%◌, ◌^◌, ◌≤◌, ◌==◌};
+ghost use Rattle.bus.specs.Rows.{row_of};
+ghost use Rattle.model.specs.Machine.{due, hopeless};
 
-use streams::Stream;
+use crate::machine::row::Row;
 
-// The instant at which a frame of a stream is released; frames are counted from 1.
-fn born(stream: &Stream, frame: u64) -> u64
-    requires { frame ≤ 2 ^ 42 }
-    ensures value { result ≡ born (stream_of stream.now) frame }
-    ensures short { result ≤ 2 ^ 54 }
-{
-    frame.saturating_sub(1) * u64::from(stream.period())
-}
+impl Row {
+    // Whether a frame is released at an instant: the period divides it.
+    pub(super) fn is_released(&self, instant: u64) -> bool
+        ensures { result ≡ (instant % self.now.stream.period == 0) }
+    {
+        instant % u64::from(self.stream.period()) == 0
+    }
 
-// The instant at which it is due.
-pub(super) fn due(stream: &Stream, frame: u64) -> u64
-    requires { frame ≤ 2 ^ 42 }
-    ensures { result ≡ due (stream_of stream.now) frame }
-{
-    born(stream, frame) + u64::from(stream.deadline())
-}
+    // The instant at which a frame of the stream is due. Frames are counted from 1, and the first is released at 0.
+    pub(super) fn due(&self, frame: u64) -> u64
+        requires { frame ≤ 2 ^ 42 }
+        ensures { result ≡ due (row_of self.now).stream frame }
+    {
+        let born = frame.saturating_sub(1) * u64::from(self.stream.period());
+        born + u64::from(self.stream.deadline())
+    }
 
-// Whether it cannot be sent by then from an instant on.
-pub(super) fn is_hopeless(stream: &Stream, frame: u64, instant: u64) -> bool
-    requires { (frame ≤ 2 ^ 42) × (instant ≤ 2 ^ 41) }
-    ensures { result ≡ hopeless instant (stream_of stream.now) frame }
-{
-    due(stream, frame) < instant + u64::from(stream.service())
+    // Whether it cannot be sent by then from an instant on.
+    pub(super) fn is_hopeless(&self, frame: u64, instant: u64) -> bool
+        requires { frame ≤ 2 ^ 42 }
+        ensures { result ≡ hopeless instant (row_of self.now).stream frame }
+    {
+        self.due(frame) - u64::from(self.stream.service()) < instant
+    }
 }

@@ -1,69 +1,46 @@
-ghost use Rattle.std.specs.Prelude.{◌≡◌, ◌≤◌, map, Some, None};
-ghost use Rattle.bus.specs.Fews.{listed};
+ghost use Rattle.std.specs.Prelude.{◌≡◌, ◌≤◌, is_some, None};
 ghost use Rattle.bus.specs.Rows.{row_of};
-ghost use Rattle.bus.specs.Stands.{ready_of};
-ghost use Rattle.bus.specs.Waiting.{Sendable, SendableIn, number_in, shown_in};
+ghost use Rattle.bus.specs.Waiting.{Sendable, candidate_of};
 ghost use Rattle.firm.specs.Stands.{firm_of};
-ghost use Rattle.model.specs.Machine.{history_of, with_waiting};
+ghost use Rattle.model.specs.Machine.{candidate, history_of, release_row, with_waiting};
 ghost use Rattle.std.specs.Option.{option_map};
 
+use crate::machine::candidate::Candidate;
 use crate::machine::row::Row;
-use crate::machine::row::timing::due;
 use crate::ready::ReadyFrame;
 use firm::History;
 
-// What a rule is shown of the waiting frame of a slot, if any.
-pub(crate) fn shown_slot(row: Option<Row>, slot: u8, instant: u64) -> Option<ReadyFrame>
-    requires { (slot ≤ 7) × (SendableIn instant (option_map row_of row)) }
-    ensures { map ready_of (listed result) ≡ shown_in instant slot (option_map row_of row) }
-{
-    match row {
-        Some(row) => row.shown(slot, instant),
-        None => None,
-    }
-}
-
-// The number of the waiting frame of a slot, if any.
-pub(crate) fn frame_in(row: Option<Row>) -> Option<u64>
-    ensures { result ≡ number_in (option_map row_of row) }
-{
-    match row {
-        Some(row) => row.waits,
-        None => None,
-    }
-}
-
-// The history of a slot's stream as it stands.
-pub(crate) fn history_in(row: Option<Row>) -> Option<History>
-    ensures { option_map firm_of result ≡ option_map history_of (option_map row_of row) }
-{
-    match row {
-        Some(row) => Some(row.history),
-        None => None,
-    }
-}
-
-// A slot whose frame no longer waits.
-pub(crate) fn without_waiting(row: Option<Row>) -> Option<Row>
-    ensures { option_map row_of result ≡ option_map (with_waiting None) (option_map row_of row) }
-{
-    match row {
-        Some(row) => Some(row.with_waiting(None)),
-        None => None,
-    }
-}
-
 impl Row {
-    fn shown(&self, slot: u8, instant: u64) -> Option<ReadyFrame>
-        requires { (slot ≤ 7) × (Sendable instant (row_of self.now)) }
-        ensures { map ready_of (listed result) ≡ shown_in instant slot (Some (row_of self.now)) }
+    // The history as it stands.
+    pub(crate) fn history(&self) -> History
+        ensures { firm_of result ≡ history_of (row_of self.now) }
     {
-        match self.waits {
-            Some(frame) => {
-                let left = due(&self.stream, frame) - instant;
-                Some(ReadyFrame::waiting(slot, &self.stream, self.history, left as u16))
-            }
-            None => None,
-        }
+        self.history
+    }
+
+    // Whether a frame waits after the releases of an instant.
+    pub(crate) fn waits_from(&self, instant: u64) -> bool
+        ensures { result ≡ is_some (release_row instant (row_of self.now)).waits }
+    {
+        self.waits.is_some() || self.is_released(instant)
+    }
+
+    // The waiting frame, if any, with what a rule is shown of it at an instant.
+    pub(crate) fn candidate(&self, slot: u8, instant: u64) -> Option<Candidate>
+        requires { (slot ≤ 7) × (Sendable instant (row_of self.now)) }
+        ensures { option_map candidate_of result ≡ option_map (candidate instant slot (row_of self.now)) self.now.waits }
+    {
+        let frame = self.waits?;
+        let left = self.due(frame) - instant;
+        let shown = ReadyFrame::waiting(slot, &self.stream, self.history, left as u16);
+        Some(Candidate { frame, shown })
+    }
+
+    // The row once its frame is sent: it no longer waits.
+    pub(crate) fn sent(mut self) -> Row
+        ensures { row_of result ≡ with_waiting None (row_of self) }
+    {
+        self.waits = None;
+        self
     }
 }

@@ -1,31 +1,50 @@
 ghost use Rattle.std.specs.Prelude.{◌≡◌};
+ghost use Rattle.bus.specs.Endings.{AtMost};
+ghost use Rattle.bus.specs.Machines.{tally_of};
+ghost use Rattle.bus.specs.Rows.{row_of, rows_of};
 ghost use Rattle.bus.specs.States.{standing};
-ghost use Rattle.model.specs.Machine.{drop, release};
+ghost use Rattle.bus.specs.Tallies.{together};
+ghost use Rattle.bus.specs.Waiting.{waits_from};
+ghost use Rattle.model.specs.Machine.{drop, drops, release};
+ghost use Rattle.model.specs.Tally.{tally};
+ghost use Rattle.std.specs.List.{list_any};
+ghost use Rattle.std.specs.Option.{option_map};
 
-use crate::machine::row::stepping::{drop_slot, drops, release_slot, releases};
 use crate::machine::state::State;
+use crate::machine::tally::Tally;
 
 impl State {
+    // Whether a frame waits in some slot after the releases of this instant.
+    pub(crate) fn is_waiting(&self) -> bool
+        ensures { result ≡ list_any (λ slot. waits_from self.entry.now.now (option_map row_of slot)) self.entry.now.rows }
+    {
+        self.rows
+            .iter()
+            .any(|slot| slot.is_some_and(|row| row.waits_from(self.now)))
+    }
+
     // Step 1: each occupied slot whose period divides the instant releases a frame, which waits.
     pub(crate) fn release(&mut self)
         ensures { standing self.new ≡ release (standing self.old) }
     {
         let instant = self.now;
         for slot in self.rows.iter_mut() {
-            if releases(slot, instant) {
-                *slot = release_slot(*slot, instant);
+            if let Some(row) = slot {
+                row.release(instant);
             }
         }
     }
 
-    // Step 6: each waiting frame that can no longer be sent in time is dropped and has missed.
-    pub(crate) fn drop(&mut self)
-        ensures { standing self.new ≡ drop (standing self.old) }
+    // Step 6: each waiting frame that can no longer be sent in time is dropped and has missed, which is told.
+    pub(crate) fn drop(&mut self, told: &mut Tally)
+        requires { AtMost 1 (tally_of told.old) }
+        ensures state { standing self.new ≡ drop (standing self.old) }
+        ensures told { tally_of told.new ≡ together (tally_of told.old) (tally (drops self.old.now 0 (rows_of self.old.rows))) }
     {
         let instant = self.now;
-        for slot in self.rows.iter_mut() {
-            if drops(slot, instant) {
-                *slot = drop_slot(*slot, instant);
+        for (i, slot) in self.rows.iter_mut().enumerate() {
+            if let Some(row) = slot {
+                told.add(row.drop(i as u8, instant));
             }
         }
     }

@@ -3,8 +3,9 @@ ghost use Rattle.bus.specs.States.{standing};
 ghost use Rattle.model.specs.Schedule.{started};
 ghost use Rattle.streams.specs.Tables.{table_of};
 
-use crate::machine::row::stepping::fresh_slot;
+use crate::machine::row::Row;
 use crate::machine::state::State;
+use std::array;
 use streams::Table;
 
 impl State {
@@ -12,13 +13,9 @@ impl State {
     pub(crate) fn started(table: &Table) -> State
         ensures { standing result ≡ started (table_of table.now) }
     {
-        let mut rows = [None; 8];
-        for (i, row) in rows.iter_mut().enumerate() {
-            *row = fresh_slot(table.stream(i as u64));
-        }
         State {
             now: 0,
-            rows,
+            rows: array::from_fn(|i| table.stream(i as u64).map(Row::fresh)),
             transit: None,
         }
     }

@@ -6,7 +6,6 @@ ghost use Rattle.model.specs.Machine.{outcomes, unit};
 ghost use Rattle.model.specs.Tally.{tally};
 
 use crate::machine::state::State;
-use crate::machine::state::telling::drops_after;
 use crate::machine::tally::Tally;
 use crate::rule::Rule;
 
@@ -21,10 +20,9 @@ impl State {
         self.start(rule);
         self.mark(noisy);
         self.tick();
-        let arrived = self.arrival();
-        self.leave();
-        let ended = drops_after(arrived, &self.rows, self.now);
-        self.drop();
-        Tally::of(ended, self.now)
+        let mut told = Tally::nothing();
+        told.add(self.leave());
+        self.drop(&mut told);
+        told
     }
 }

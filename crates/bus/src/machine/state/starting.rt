@@ -1,61 +1,15 @@
-ghost use Rattle.std.specs.Prelude.{◌≡◌, map, length, Some, None};
-ghost use Rattle.bus.specs.Fews.{few_of};
+ghost use Rattle.std.specs.Prelude.{◌≡◌, Some, None};
 ghost use Rattle.bus.specs.Rows.{rows_of};
-ghost use Rattle.bus.specs.Stands.{ready_of};
 ghost use Rattle.bus.specs.States.{standing};
-ghost use Rattle.bus.specs.Waiting.{AllSendable, candidate_of, shown};
+ghost use Rattle.bus.specs.Waiting.{AllSendable, ahead, candidate_of};
 ghost use Rattle.model.specs.Machine.{candidates, front, start, starting};
 ghost use Rattle.std.specs.Option.{option_map};
 
-use crate::front::front_at;
 use crate::machine::candidate::Candidate;
-use crate::machine::few::Few;
-use crate::machine::few::listing::follow;
 use crate::machine::row::Row;
-use crate::machine::row::waiting::{frame_in, shown_slot, without_waiting};
 use crate::machine::state::State;
 use crate::machine::transit::Transit;
-use crate::ready::ReadyFrame;
 use crate::rule::Rule;
-
-// What a rule is shown of the waiting frames, lowest slot first.
-fn shown_frames(rows: &[Option<Row>], instant: u64) -> Option<Few<ReadyFrame>>
-    requires { (length rows.now ≡ 8) × (AllSendable instant (rows_of rows.now)) }
-    ensures { map ready_of (few_of result) ≡ map shown (candidates instant 0 (rows_of rows.now)) }
-{
-    let mut frames = None;
-    for (i, row) in rows.iter().enumerate() {
-        follow(&mut frames, shown_slot(*row, i as u8, instant));
-    }
-    frames
-}
-
-// What the rule is shown of the waiting frame that goes before the others, if any waits.
-fn shown_front<R: Rule>(rule: &R, rows: &[Option<Row>], instant: u64) -> Option<ReadyFrame>
-    requires { (length rows.now ≡ 8) × (AllSendable instant (rows_of rows.now)) }
-    ensures { option_map ready_of result ≡ option_map shown (front (R.before rule.now) (candidates instant 0 (rows_of rows.now))) }
-{
-    let Some(frames) = shown_frames(rows, instant) else {
-        return None;
-    };
-    let frames = frames.as_slice();
-    match front_at(rule, frames) {
-        Some(first) => Some(frames[first]),
-        None => None,
-    }
-}
-
-// The waiting frame that goes before the others, if any waits.
-fn front<R: Rule>(rule: &R, rows: &[Option<Row>], instant: u64) -> Option<Candidate>
-    requires { (length rows.now ≡ 8) × (AllSendable instant (rows_of rows.now)) }
-    ensures { option_map candidate_of result ≡ front (R.before rule.now) (candidates instant 0 (rows_of rows.now)) }
-{
-    let Some(shown) = shown_front(rule, rows, instant) else {
-        return None;
-    };
-    let frame = frame_in(rows[usize::from(shown.slot())]).unwrap();
-    Some(Candidate { frame, shown })
-}
 
 impl State {
     // Step 2: with nothing in transit and some frame waiting, the front starts.
@@ -66,9 +20,23 @@ impl State {
         if self.transit.is_some() {
             return;
         }
-        if let Some(candidate) = front(rule, &self.rows, self.now) {
+        if let Some(candidate) = self.front(rule) {
             self.send(candidate);
         }
+    }
+
+    // The waiting frame that goes before the others, if any waits.
+    fn front<R: Rule>(&self, rule: &R) -> Option<Candidate>
+        requires { AllSendable self.now.now (rows_of self.now.rows) }
+        ensures { option_map candidate_of result ≡ front (R.before rule.now) (candidates self.entry.now.now 0 (rows_of self.entry.now.rows)) }
+    {
+        let mut front = None;
+        for (i, slot) in self.rows.iter().enumerate() {
+            if let Some(row) = slot {
+                front = ahead(rule, front, row.candidate(i as u8, self.now));
+            }
+        }
+        front
     }
 
     // A frame no longer waits, and is in transit until its service time is over.
@@ -77,12 +45,26 @@ impl State {
     {
         let shown = candidate.shown;
         let slot = usize::from(shown.slot());
-        self.rows[slot] = without_waiting(self.rows[slot]);
+        self.rows[slot] = self.rows[slot].map(Row::sent);
         self.transit = Some(Transit {
             slot: shown.slot(),
             frame: candidate.frame,
             end: self.now + u64::from(shown.service()),
             marked: false,
         });
+    }
+}
+
+// The one of two waiting frames that goes before the other; either may be absent.
+fn ahead<R: Rule>(rule: &R, first: Option<Candidate>, next: Option<Candidate>) -> Option<Candidate>
+    ensures { option_map candidate_of result ≡ ahead (R.before rule.now) (option_map candidate_of first) (option_map candidate_of next) }
+{
+    let (Some(a), Some(b)) = (first, next) else {
+        return first.or(next);
+    };
+    if rule.goes_before(&b.shown, &a.shown) {
+        next
+    } else {
+        first
     }
 }

@@ -1,100 +1,72 @@
-ghost use Rattle.std.specs.Prelude.{◌≡◌, ℕ, ◌≤◌, map, length};
+ghost use Rattle.std.specs.Prelude.{◌≡◌, ◌+◌, ◌^◌, ◌<◌, [], Some};
+ghost use Rattle.bus.specs.Endings.{AtMost, told_of};
 ghost use Rattle.bus.specs.Machines.{failure_note, tally_of};
-ghost use Rattle.bus.specs.Endings.{ended_of, failed};
-ghost use Rattle.bus.specs.Failures.{lower_failure};
-ghost use Rattle.bus.specs.Fews.{few_of};
-ghost use Rattle.bus.specs.Leaders.{leader};
-ghost use Rattle.model.specs.Tally.{failure_of, how_many, tally};
+ghost use Rattle.bus.specs.Tallies.{together};
+ghost use Rattle.model.specs.Tally.{soonest, tally};
 ghost use Rattle.std.specs.Option.{option_map};
 
-use crate::failure::{Failure, first_failure};
+use crate::failure::Failure;
 use crate::machine::ended::Ended;
-use crate::machine::few::Few;
-use crate::machine::few::listing::follow;
 use crate::machine::tally::Tally;
-
-// How many of some outcomes were met.
-fn count_met(ended: &[Ended]) -> u64
-    ensures { (u : ℕ) → result ≡ how_many (λ o. o.met) (map (ended_of u) ended.now) }
-{
-    let mut met = 0;
-    for outcome in ended {
-        met += u64::from(outcome.met);
-    }
-    met
-}
-
-impl Ended {
-    // The failure that an outcome at an instant is, if it is one.
-    fn failure(&self, instant: u64) -> Option<Failure>
-        ensures { option_map failure_note result ≡ failure_of (ended_of instant self.now) }
-    {
-        if self.failure {
-            Some(Failure {
-                slot: self.slot,
-                frame: self.frame,
-                instant,
-            })
-        } else {
-            None
-        }
-    }
-}
-
-// The failures among the outcomes of a unit that ends at an instant.
-fn failures(ended: &[Ended], instant: u64) -> Option<Few<Failure>>
-    requires { length ended.now ≤ 9 }
-    ensures { map failure_note (few_of result) ≡ failed (map (ended_of instant) ended.now) }
-{
-    let mut failures = None;
-    for outcome in ended {
-        follow(&mut failures, outcome.failure(instant));
-    }
-    failures
-}
-
-// The failure in the lowest slot.
-fn lowest(failures: &[Failure]) -> Option<Failure>
-    ensures { result ≡ leader lower_failure failures.now }
-{
-    match first_failure(failures) {
-        Some(first) => Some(failures[first]),
-        None => None,
-    }
-}
-
-// What is told of some outcomes of a unit that ends at an instant.
-fn told(ended: &[Ended], instant: u64) -> Tally
-    requires { length ended.now ≤ 9 }
-    ensures { tally_of result ≡ tally (map (ended_of instant) ended.now) }
-{
-    let met = count_met(ended);
-    let missed = ended.len() as u64 - met;
-    let Some(failures) = failures(ended, instant) else {
-        return Tally {
-            met,
-            missed,
-            failures: 0,
-            first: None,
-        };
-    };
-    let failures = failures.as_slice();
-    Tally {
-        met,
-        missed,
-        failures: failures.len() as u64,
-        first: lowest(failures),
-    }
-}
+use firm::Outcome;
 
 impl Tally {
-    // What is told of the outcomes of a unit that ends at an instant.
-    pub(crate) fn of(ended: Option<Few<Ended>>, instant: u64) -> Tally
-        ensures { tally_of result ≡ tally (map (ended_of instant) (few_of ended)) }
+    // What is told of no outcome.
+    pub fn nothing() -> Tally
+        ensures { tally_of result ≡ tally [] }
     {
-        match ended {
-            Some(few) => told(few.as_slice(), instant),
-            None => told(&[], instant),
+        Tally {
+            met: 0,
+            missed: 0,
+            failures: 0,
+            first: None,
         }
+    }
+
+    // What is told of some outcomes and then of others.
+    pub fn together(self, other: Tally) -> Tally
+        requires met { self.met + other.met < 2 ^ 64 }
+        requires missed { self.missed + other.missed < 2 ^ 64 }
+        requires failures { self.failures + other.failures < 2 ^ 64 }
+        ensures { tally_of result ≡ together (tally_of self) (tally_of other) }
+    {
+        Tally {
+            met: self.met + other.met,
+            missed: self.missed + other.missed,
+            failures: self.failures + other.failures,
+            first: soonest(self.first, other.first),
+        }
+    }
+
+    // What is told of a frame that has ended.
+    fn of(ended: Ended) -> Tally
+        ensures { tally_of result ≡ told_of (Some ended) }
+    {
+        Tally {
+            met: u64::from(ended.outcome == Outcome::Met),
+            missed: u64::from(ended.outcome == Outcome::Missed),
+            failures: u64::from(ended.failure.is_some()),
+            first: ended.failure,
+        }
+    }
+
+    // Tells of one more frame, if it has ended; a unit ends nine at most.
+    pub(crate) fn add(&mut self, ended: Option<Ended>)
+        requires { AtMost 9 (tally_of self.old) }
+        ensures { tally_of self.new ≡ together (tally_of self.old) (told_of ended) }
+    {
+        if let Some(ended) = ended {
+            *self = self.together(Tally::of(ended));
+        }
+    }
+}
+
+// The sooner of two failures; either may be absent.
+fn soonest(a: Option<Failure>, b: Option<Failure>) -> Option<Failure>
+    ensures { option_map failure_note result ≡ soonest (option_map failure_note a) (option_map failure_note b) }
+{
+    match (a, b) {
+        (Some(x), Some(y)) if y.is_sooner(&x) => b,
+        _ => a.or(b),
     }
 }

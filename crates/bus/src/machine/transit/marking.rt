@@ -1,30 +1,28 @@
-ghost use Rattle.std.specs.Prelude.{◌≡◌, if◌then◌else◌};
+ghost use Rattle.std.specs.Prelude.{◌≡◌, not};
+ghost use Rattle.bus.specs.Endings.{is_met};
 ghost use Rattle.bus.specs.Rows.{transit_of};
 ghost use Rattle.model.specs.Machine.{hit};
-ghost use Rattle.std.specs.Option.{option_map};
 
 use crate::machine::transit::Transit;
+use firm::Outcome;
 
 impl Transit {
     // The frame in transit after noise has hit it.
-    fn hit(self) -> Transit
+    pub(crate) fn hit(mut self) -> Transit
         ensures { transit_of result ≡ hit (transit_of self) }
     {
-        Transit {
-            slot: self.slot,
-            frame: self.frame,
-            end: self.end,
-            marked: true,
-        }
+        self.marked = true;
+        self
     }
-}
 
-// What is in transit after a unit that is noisy or quiet.
-pub(crate) fn after_noise(transit: Option<Transit>, noisy: bool) -> Option<Transit>
-    ensures { option_map transit_of result ≡ (if noisy then option_map hit (option_map transit_of transit) else option_map transit_of transit) }
-{
-    match transit {
-        Some(transit) if noisy => Some(transit.hit()),
-        quiet => quiet,
+    // How the frame ends once it leaves: met, or missed if marked.
+    pub(crate) fn outcome(&self) -> Outcome
+        ensures { is_met result ≡ not self.now.marked }
+    {
+        if self.marked {
+            Outcome::Missed
+        } else {
+            Outcome::Met
+        }
     }
 }

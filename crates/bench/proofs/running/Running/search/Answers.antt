@@ -2,7 +2,7 @@ use Rattle.std.proofs.lemmas.Result.{err_from_is_err_and}
 use Rattle.laws.proofs.Held.{held_sound}
 use Rattle.bus.specs.Machines.{failure_note, state_of}
 use Rattle.bench.specs.Stands.{state_in}
-use Rattle.bench.proofs.Foretelling.{fails_onward, pair_onward}
+use Rattle.bench.proofs.Foretelling.{fails_onward, earliest_onward}
 use Rattle.bench.proofs.running.Running.search.Goals as goal
 
 pub returns-in_err-round : goal.returns-in_err-round
@@ -20,5 +20,5 @@ returns g c =
     let b = c.args.self.now in
     let s = state_in b in
     let before = g.R.Rule.before b.rule in
-    pair_onward before s (held_sound s b.machine.sound) (state_of c.in_ok-first.first) c.in_ok-first.ensures.0
-    c.beginning.result c.beginning.ensures
+    earliest_onward before s (held_sound s b.machine.sound) (state_of c.in_ok-first.first) c.in_ok-first.ensures.0
+    c.earliest_round.result c.earliest_round.ensures
