@@ -27,25 +27,16 @@ impl fmt::Display for Told {
     fn fmt<W: fmt::Write>(&self, f: &mut fmt::Formatter<W>) -> fmt::Result {
         match self {
             Told::Done => write!(f, "ok"),
-            Told::Units(
-                Tally {
-                    met,
-                    missed,
-                    failures,
-                    first,
-                },
-            ) => {
-                let first = OrNone(*first);
-                write!(
-                    f,
-                    "met {met} missed {missed} failures {failures} first {first}"
-                )
-            }
+            Told::Units(tally) => write!(
+                f,
+                "met {} missed {} failures {} first {}",
+                tally.met,
+                tally.missed,
+                tally.failures,
+                OrNone(tally.first)
+            ),
             Told::Foretold(forecast) => write!(f, "{forecast}"),
-            Told::Figured(figures) => {
-                let figures = OrNone(*figures);
-                write!(f, "{figures}")
-            }
+            Told::Figured(figures) => write!(f, "{}", OrNone(*figures)),
         }
     }
 }

@@ -6,21 +6,18 @@ use bench::{Laid, Running};
 use bus::Ranking;
 use replay::Bench;
 
-// Works a call on a bench, with its answer.
-pub(crate) fn work(
-    bench: Bench<Ranking>,
-    command: &Command,
-) -> anyhow::Result<(Bench<Ranking>, Result<Told, Refused>)> {
+// The bench after a call, and the call's answer.
+pub(crate) type Worked = (Bench<Ranking>, Result<Told, Refused>);
+
+// Works a call on a bench.
+pub(crate) fn work(bench: Bench<Ranking>, command: &Command) -> anyhow::Result<Worked> {
     match bench {
         Bench::Laid(laid) => work_laid(laid, command),
         Bench::Running(running) => work_running(running, command),
     }
 }
 
-fn work_laid(
-    mut laid: Laid<Ranking>,
-    command: &Command,
-) -> anyhow::Result<(Bench<Ranking>, Result<Told, Refused>)> {
+fn work_laid(mut laid: Laid<Ranking>, command: &Command) -> anyhow::Result<Worked> {
     let changed = match command {
         Command::Fit { slot, numbers } => laid.fit(*slot, *numbers).map_err(Refused::from),
         Command::Pull { slot } => laid.pull(*slot).map_err(Refused::from),
@@ -32,10 +29,7 @@ fn work_laid(
     Ok((Bench::Laid(laid), changed.map(|()| Told::Done)))
 }
 
-fn work_running(
-    mut running: Running<Ranking>,
-    command: &Command,
-) -> anyhow::Result<(Bench<Ranking>, Result<Told, Refused>)> {
+fn work_running(mut running: Running<Ranking>, command: &Command) -> anyhow::Result<Worked> {
     let answer = match command {
         Command::Advance { units } => running
             .advance(*units)
