@@ -1,17 +1,20 @@
-// An input from its line.
+// Bytes from hexadecimal digits.
 ghost use Rattle.std.specs.Prelude.{◌≡◌, IfOk};
+ghost use Rattle.std.specs.Option.{option_map};
+ghost use Rattle.std.specs.Result.{result_ok};
 ghost use Rattle.hex.specs.Hex.{decode_of};
 
-use anyhow::anyhow;
 use hex::FromHexError;
 use std::alloc::{AllocError, Global};
 
-// The input that a line of hexadecimal digits spells.
-pub(crate) fn decoded(heap: Global, line: &[u8]) -> anyhow::Result<Vec<u8>>
-    ensures { IfOk result (λ input. decode_of line.now ≡ Ok input.items) }
+// The bytes that hexadecimal digits spell, or none where they are no such digits or an odd number of them.
+pub fn decoded(heap: Global, digits: &[u8]) -> Result<Option<Vec<u8>>, AllocError>
+    ensures { IfOk result (λ bytes. option_map (λ v. v.items) bytes ≡ result_ok (decode_of digits.now)) }
 {
-    hex::decode(heap, line).map_err(|error| match error {
-        FromHexError::OutOfMemory => AllocError.into(),
-        _ => anyhow!("a line is not in hexadecimal"),
-    })
+    hex::decode(heap, digits)
+        .map(Some)
+        .or_else(|error| match error {
+            FromHexError::OutOfMemory => Err(AllocError),
+            _ => Ok(None),
+        })
 }

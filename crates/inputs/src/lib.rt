@@ -7,3 +7,4 @@ mod decoding;
 mod tests;
 
 pub use answering::answer_all;
+pub use decoding::decoded;

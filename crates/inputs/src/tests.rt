@@ -1,4 +1,4 @@
-use crate::answer_all;
+use crate::{answer_all, decoded};
 use std::test::Fail;
 
 // The answer to an input is how many bytes it has.
@@ -25,5 +25,14 @@ fn no_hexadecimal(rt: HostRuntime) -> Result<(), Fail> {
         });
         assert!(rt; answered.is_err());
     }
+    Ok(())
+}
+
+#[test]
+fn decoding(rt: HostRuntime) -> Result<(), Fail> {
+    let heap = rt.alloc();
+    let bytes = decoded(heap, b"0aFF")?;
+    assert_eq!(rt; bytes.as_deref(), Some(b"\x0a\xff".as_slice()));
+    assert!(rt; decoded(heap, b"0aF")?.is_none());
     Ok(())
 }

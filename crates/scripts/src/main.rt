@@ -2,12 +2,12 @@
 // The expected answers come from simulators that were made apart from this product.
 #![tactic(auto)]
 
+use crate::answer::Told;
 use crate::command::{Command, parse};
-use crate::working::work_calls;
-use anyhow::anyhow;
-use bus::{Deh, Del, Dml, Drel, El, Ml, Named};
-use forecast_report::ranking::Ranking;
-use std::alloc::Global;
+use crate::working::work;
+use anyhow::Context;
+use bench::Laid;
+use replay::Bench;
 use std::io::{BufRead, BufReader};
 
 mod answer;
@@ -18,36 +18,25 @@ mod working;
 // The commands on the lines of standard input.
 fn read_commands(rt: &HostRuntime) -> anyhow::Result<Vec<Command>> {
     let heap = rt.alloc();
-    let mut commands = Vec::new(heap);
-    for line in BufReader::new(heap, rt.stdin())?.lines(heap) {
-        match parse(heap, line?.as_str())? {
-            Some(command) => commands.push(command)?,
-            None => return Err(anyhow!("a line is no bench call")),
-        }
-    }
-    Ok(commands)
+    BufReader::new(heap, rt.stdin())?
+        .lines(heap)
+        .map(|line| parse(heap, line?.as_str()))
+        .try_collect(heap)
 }
 
-// Works a script on a bench over a ranking rule: the commands up to the next `rule`.
-fn work_script(rt: &HostRuntime, ranking: Ranking, commands: &[Command]) -> anyhow::Result<()> {
-    match ranking {
-        Ranking::Del => work_calls(rt, Del::new(), commands),
-        Ranking::Deh => work_calls(rt, Deh::new(), commands),
-        Ranking::Dml => work_calls(rt, Dml::new(), commands),
-        Ranking::Drel => work_calls(rt, Drel::new(), commands),
-        Ranking::El => work_calls(rt, El::new(), commands),
-        Ranking::Ml => work_calls(rt, Ml::new(), commands),
-    }
-}
-
+// Works the commands of a script: each `rule` makes a bench for the calls up to the next.
 fn run(rt: &HostRuntime) -> anyhow::Result<()> {
-    let commands = read_commands(rt)?;
-    for (i, command) in commands.iter().enumerate() {
-        if let Command::Rule(ranking) = command {
-            work_script(rt, *ranking, &commands[i + 1..])?;
-        } else if i == 0 {
-            return Err(anyhow!("the first line makes no bench"));
+    let mut made = None;
+    for command in &read_commands(rt)? {
+        let (bench, answer) = match command {
+            Command::Rule(ranking) => (Bench::Laid(Laid::new(*ranking)), Ok(Told::Done)),
+            call => work(made.context("the first line makes no bench")?, call)?,
+        };
+        match answer {
+            Ok(told) => rt.println(told)?,
+            Err(refused) => rt.println(refused)?,
         }
+        made = Some(bench);
     }
     Ok(())
 }

@@ -1,77 +1,45 @@
 // The calls of a script on one bench.
-use crate::answer::{Answer, done, loaded, told};
+use crate::answer::{Refused, Told};
 use crate::command::Command;
-use anyhow::anyhow;
+use anyhow::bail;
 use bench::{Laid, Running};
-use bus::Rule;
+use bus::Ranking;
+use replay::Bench;
 
-// A bench, laid or running.
-#[derive(Drop)]
-enum Bench<R: Rule> {
-    Laid(Laid<R>),
-    Running(Running<R>),
-}
+// The bench after a call, and the call's answer.
+pub(crate) type Worked = (Bench<Ranking>, Result<Told, Refused>);
 
-// Makes a bench over a rule, works the calls up to the next `rule` on it, and prints the answers.
-pub(crate) fn work_calls<R: Rule + Drop>(
-    rt: &HostRuntime,
-    rule: R,
-    commands: &[Command],
-) -> anyhow::Result<()> {
-    rt.println(Answer::Done)?;
-    let mut bench = Bench::Laid(Laid::new(rule));
-    for command in commands {
-        if let Command::Rule(_) = command {
-            break;
-        }
-        let (after, answer) = work(bench, command)?;
-        rt.println(answer)?;
-        bench = after;
-    }
-    Ok(())
-}
-
-fn work<R: Rule + Drop>(bench: Bench<R>, command: &Command) -> anyhow::Result<(Bench<R>, Answer)> {
+// Works a call on a bench.
+pub(crate) fn work(bench: Bench<Ranking>, command: &Command) -> anyhow::Result<Worked> {
     match bench {
         Bench::Laid(laid) => work_laid(laid, command),
         Bench::Running(running) => work_running(running, command),
     }
 }
 
-fn work_laid<R: Rule + Drop>(
-    mut laid: Laid<R>,
-    command: &Command,
-) -> anyhow::Result<(Bench<R>, Answer)> {
-    let answer = match command {
-        Command::Fit {
-            slot,
-            period,
-            deadline,
-            service,
-            m,
-            k,
-            history,
-        } => done(laid.fit(*slot, *period, *deadline, *service, *m, *k, *history)),
-        Command::Pull(slot) => done(laid.pull(*slot)),
-        Command::Prime(slot, history) => done(laid.prime(*slot, *history)),
-        Command::Load(file) => loaded(laid.load(file.as_slice())),
-        Command::Start => return Ok((Bench::Running(laid.start()), Answer::Done)),
-        _ => return Err(anyhow!("a laid bench has no such call")),
+fn work_laid(mut laid: Laid<Ranking>, command: &Command) -> anyhow::Result<Worked> {
+    let changed = match command {
+        Command::Fit { slot, numbers } => laid.fit(*slot, *numbers).map_err(Refused::from),
+        Command::Pull { slot } => laid.pull(*slot).map_err(Refused::from),
+        Command::Prime { slot, history } => laid.prime(*slot, *history).map_err(Refused::from),
+        Command::Load { file } => laid.load(file).map_err(Refused::from),
+        Command::Start => return Ok((Bench::Running(laid.start()), Ok(Told::Done))),
+        _ => bail!("a laid bench has no such call"),
     };
-    Ok((Bench::Laid(laid), answer))
+    Ok((Bench::Laid(laid), changed.map(|()| Told::Done)))
 }
 
-fn work_running<R: Rule + Drop>(
-    mut running: Running<R>,
-    command: &Command,
-) -> anyhow::Result<(Bench<R>, Answer)> {
+fn work_running(mut running: Running<Ranking>, command: &Command) -> anyhow::Result<Worked> {
     let answer = match command {
-        Command::Advance(units) => told(running.advance(*units)),
-        Command::Disturb => told(running.disturb()),
-        Command::Forecast => Answer::Foretold(running.forecast()),
-        Command::Figures => Answer::Figured(running.figures()),
-        Command::Stop => return Ok((Bench::Laid(running.stop()), Answer::Done)),
-        _ => return Err(anyhow!("a running bench has no such call")),
+        Command::Advance { units } => running
+            .advance(*units)
+            .map(Told::Units)
+            .map_err(Refused::from),
+        Command::Disturb => running.disturb().map(Told::Units).map_err(Refused::from),
+        Command::Forecast => Ok(Told::Foretold(running.forecast())),
+        Command::Figures => Ok(Told::Figured(running.figures())),
+        Command::Stop => return Ok((Bench::Laid(running.stop()), Ok(Told::Done))),
+        _ => bail!("a running bench has no such call"),
     };
     Ok((Bench::Running(running), answer))
 }
