@@ -23,6 +23,7 @@ impl State {
     }
 
     // Step 1: each occupied slot whose period divides the instant releases a frame, which waits.
+    // A loop and not a chain, as in step 6: the rows change in place.
     pub(crate) fn release(&mut self)
         ensures { standing self.new ≡ release (standing self.old) }
     {

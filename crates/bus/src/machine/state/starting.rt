@@ -26,6 +26,7 @@ impl State {
     }
 
     // The waiting frame that goes before the others, if any waits.
+    // A loop and not a chain: that a frame can still be sent, which its row asks, is known slot by slot.
     fn front<R: Rule>(&self, rule: &R) -> Option<Candidate>
         requires { AllSendable self.now.now (rows_of self.now.rows) }
         ensures { option_map candidate_of result ≡ front (R.before rule.now) (candidates self.entry.now.now 0 (rows_of self.entry.now.rows)) }
