@@ -4,17 +4,13 @@ ghost use Rattle.std.specs.Option.{option_map};
 ghost use Rattle.std.specs.Result.{result_ok};
 ghost use Rattle.hex.specs.Hex.{decode_of};
 
-use hex::FromHexError;
 use std::alloc::{AllocError, Global};
 
 // The bytes that hexadecimal digits spell, or none where they are no such digits or an odd number of them.
 pub fn decoded(heap: Global, digits: &[u8]) -> Result<Option<Vec<u8>>, AllocError>
     ensures { IfOk result (λ bytes. option_map (λ v. v.items) bytes ≡ result_ok (decode_of digits.now)) }
 {
-    hex::decode(heap, digits)
-        .map(Some)
-        .or_else(|error| match error {
-            FromHexError::OutOfMemory => Err(AllocError),
-            _ => Ok(None),
-        })
+    let mut bytes = vec![in heap; 0u8; digits.len() / 2]?;
+    let spelt = hex::decode_to_slice(digits, &mut bytes);
+    Ok(spelt.ok().map(|()| bytes))
 }
