@@ -1,5 +1,5 @@
 use crate::Laid;
-use bus::{Del, Lower, Named, Tally};
+use bus::{Del, Lower, Tally};
 use refusal::Refusal;
 use std::test::Fail;
 use streams::Numbers;
@@ -58,7 +58,7 @@ fn calls(rt: HostRuntime) {
 // Two streams that pass and cannot both be served: the failure that an advance tells is the first of its twenty units.
 #[test]
 fn first_of_an_advance(rt: HostRuntime) -> Result<(), Fail> {
-    let mut laid = Laid::new(Del::new());
+    let mut laid = Laid::new(Del::default());
     laid.fit(0, numbers([4, 4, 1, 2, 4, 0b1111]))?;
     laid.fit(1, numbers([10, 10, 8, 3, 4, 0b1111]))?;
     let first = laid.start().advance(20)?.first;

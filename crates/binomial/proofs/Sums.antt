@@ -1,6 +1,7 @@
 -- The sums of binomial coefficients from some place on: Pascal's rule of the sums, and when they are 0. Assumes nothing.
-use Rattle.std.proofs.Common.{◌≡◌, ℕ, zero, suc, pred, ◌+◌, ◌-◌, ◌<◌, ◌≤◌, ◌⊎◌, sym, refl, ap, ◌∙◌, ap₂, inl, inr, not-suc-le-zero, arith}
+use Rattle.std.proofs.Common.{◌≡◌, ℕ, zero, suc, pred, ◌+◌, ◌-◌, ◌<◌, ◌≤◌, ◌⊎◌, List, [], ◌∷◌, length, get_or, sum, sym, refl, ap, ◌∙◌, ap₂, inl, inr, not-suc-le-zero, arith}
 use Rattle.std.proofs.lemmas.Bool.{cases_lt}
+use Rattle.std.proofs.lemmas.List.Sums.{sum_by-cons}
 use Rattle.binomial.specs.Choose.{choose, choices, at_least}
 
 -- past the diagonal every coefficient is 0
@@ -36,6 +37,15 @@ unfolding choices
 choices_enough n zero first h = sym (at_least_past n first (omega arith))
 choices_enough n (suc terms) first h =
     ap (λ x. choose n first + x) (choices_enough n terms (suc first) (omega arith)) ∙ sym (at_least_step n first)
+
+-- the coefficients of a row from some place on, those past its last place being 0, add up to the sum
+pub rest_sums : (k : ℕ) (xs : List ℕ) (first : ℕ) → ((j : ℕ) → get_or xs j 0 ≡ choose k (first + j)) → k < first + length xs → sum xs ≡ at_least k first
+rest_sums k [] first each past = sym (at_least_past k first (omega arith))
+rest_sums k (x ∷ xs) first each past =
+    let more : sum xs ≡ at_least k (suc first) =
+    rest_sums k xs (suc first) (λ j. each (suc j) ∙ ap (choose k) (omega arith)) (omega arith) in
+    let here : x ≡ choose k first = each 0 ∙ ap (choose k) (omega arith) in
+    omega (arith, at_least_step k first, sum_by-cons (λ n. n) x xs)
 
 -- with one bit more, m + 1 ones are that bit and m others, or m + 1 others
 next_bit : (k m : ℕ) → at_least (suc k) (suc m) ≡ at_least k m + at_least k (suc m)

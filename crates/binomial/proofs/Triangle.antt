@@ -1,9 +1,12 @@
 -- Pascal's rule of a whole table from one test that is computed, and the binomial coefficients from the rule. Assumes nothing.
-use Rattle.std.proofs.Common.{◌≡◌, ℕ, zero, suc, ◌+◌, ◌<◌, ◌≤◌, Bool, true, ◌&&◌, eqb, List, Decides, refl, ◌∙◌, ap₂, arith}
+use Rattle.std.proofs.Common.{◌≡◌, ℕ, zero, suc, ◌+◌, ◌<◌, ◌≤◌, ◌⊎◌, Bool, true, ◌&&◌, eqb, List, [], length, get_or, Decides, sym, refl, ap, ◌∙◌, ap₂, inl, inr, arith}
+use Rattle.std.proofs.lemmas.Bool.{cases_lt}
 use Rattle.std.proofs.lemmas.Bool.Decides.{Decides-and, Decides-eqb, Decides-below_and}
+use Rattle.std.proofs.lemmas.List.{get_or_past}
 use Rattle.binomial.specs.declared.Row.{Row}
 use Rattle.binomial.specs.Choose.{choose}
 use Rattle.binomial.specs.Pascal.{cell, Pascal}
+use Rattle.binomial.proofs.Sums.{choose_past}
 
 -- a test passes at each number below n
 abbrev pub below : (ℕ → Bool) → ℕ → Bool
@@ -38,3 +41,11 @@ cell_chooses rows p zero (suc j) ln lj = p.top j (omega arith)
 cell_chooses rows p (suc n) (suc j) ln lj =
     p.rule n j (omega arith) (omega arith)
     ∙ ap₂ ◌+◌ (cell_chooses rows p n j (omega arith) (omega arith)) (cell_chooses rows p n (suc j) (omega arith) lj)
+
+-- and so of a row by itself, also past its last place
+pub row_chooses : (rows : List Row) → Pascal rows → (n j : ℕ) (r : Row) → n ≤ 16 → length r.entries ≡ 17 → r ≡ get_or rows n (record { entries = [] }) → get_or r.entries j 0 ≡ choose n j
+row_chooses rows p n j r there wide is = by (cases_lt 16 j)
+  where
+    by : (16 < j) ⊎ (j ≤ 16) → get_or r.entries j 0 ≡ choose n j
+    by (inl past) = get_or_past r.entries j 0 (omega arith) ∙ sym (choose_past n j (omega arith))
+    by (inr within) = ap (λ x. get_or x.entries j 0) is ∙ cell_chooses rows p n j there within

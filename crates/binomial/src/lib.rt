@@ -1,12 +1,9 @@
 // The binomial coefficients of rows 0 to 16 as a table, and how many numbers of k bits have at least m ones.
 #![tactic(auto)]
 
-ghost use Rattle.std.specs.Prelude.{◌≡◌, ◌≤◌, if◌then◌else◌, Some, None, nat_lt};
+ghost use Rattle.std.specs.Prelude.{◌≡◌, if◌then◌else◌, Some, None, nat_lt};
 ghost use Rattle.binomial.specs.Choose.{choose, at_least, SumsCount};
 ghost use Rattle.binomial.specs.Pascal.{Pascal};
-
-// The last row of the table, and the last place of each row.
-const LAST: u64 = 16;
 
 // One row of the table: at place j the coefficient (n over j), 0 past the diagonal.
 pub struct Row {
@@ -41,43 +38,23 @@ pub fn table() -> &'static [Row; 17]
     &ROWS
 }
 
-// (n over j) by the table; past its last place there are only zeros.
-fn entry(n: u64, j: u64) -> u32
-    requires { n ≤ 16 }
-    ensures { result ≡ choose n j }
-{
-    if j <= LAST {
-        table()[n as usize].entries[j as usize]
-    } else {
-        0
-    }
-}
-
-// (n over j), or nothing where the table has no row n.
+// (n over j), or nothing where the table has no row n; past the last place of a row there are only zeros.
 pub fn binomial(n: u64, j: u64) -> Option<u32>
     ensures { result ≡ (if nat_lt 16 n then None else Some (choose n j)) }
 {
-    if n > LAST { None } else { Some(entry(n, j)) }
+    let row = table().get(n as usize)?;
+    Some(row.entries.get(j as usize).copied().unwrap_or(0))
 }
 
-// The sum of (k over j) for j from m to k.
-fn sum_from(k: u64, m: u64) -> u32
-    requires { k ≤ 16 }
-    ensures { result ≡ at_least k m }
-{
-    let mut sum = 0;
-    for j in m..k + 1 {
-        sum += entry(k, j);
-    }
-    sum
-}
-
-// How many numbers of k bits have at least m ones, or nothing where the table has no row k.
+// How many numbers of k bits have at least m ones, that is the sum of (k over j) for j from m to k,
+// or nothing where the table has no row k.
 pub fn at_least(k: u64, m: u64) -> Option<u32>
     ensures sum { result ≡ (if nat_lt 16 k then None else Some (at_least k m)) }
     ensures counted { SumsCount }
 {
-    if k > LAST { None } else { Some(sum_from(k, m)) }
+    let row = table().get(k as usize)?;
+    // Behind place k the row has only zeros.
+    Some(row.entries.iter().skip(m as usize).sum())
 }
 
 #[cfg(test)]

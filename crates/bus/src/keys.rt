@@ -4,8 +4,10 @@ ghost use Rattle.bus.specs.Rules.{by_distance, by_restoring, by_left, by_period,
 use crate::layers::Key;
 use crate::ready::ReadyFrame;
 
+// A type for each number and not one type that is told which: so the type of a rule names its keys.
+
 // D: the distance of the stream's history.
-#[derive(Clone, Copy)]
+#[derive(Clone, Copy, Default)]
 pub struct Distance;
 
 impl Key for Distance {
@@ -17,7 +19,7 @@ impl Key for Distance {
 }
 
 // R: the restoring distance of the stream's history.
-#[derive(Clone, Copy)]
+#[derive(Clone, Copy, Default)]
 pub struct Restoring;
 
 impl Key for Restoring {
@@ -29,7 +31,7 @@ impl Key for Restoring {
 }
 
 // E: the time left, so the earlier deadline first.
-#[derive(Clone, Copy)]
+#[derive(Clone, Copy, Default)]
 pub struct TimeLeft;
 
 impl Key for TimeLeft {
@@ -41,7 +43,7 @@ impl Key for TimeLeft {
 }
 
 // M: the period, so the more frequent stream first.
-#[derive(Clone, Copy)]
+#[derive(Clone, Copy, Default)]
 pub struct Period;
 
 impl Key for Period {

@@ -17,7 +17,7 @@ pub trait Key {
 }
 
 // The smaller key goes first; equal keys are left to the rule below.
-#[derive(Clone, Copy, Drop)]
+#[derive(Clone, Copy, Default, Drop)]
 pub struct Layer<K: Key, R: Rule> {
     by: K,
     below: R,

@@ -18,7 +18,7 @@ pub mod showing;
 #[cfg(test)]
 mod tests;
 
-pub use bottoms::{Higher, Lower};
+pub use bottoms::{Higher, Lower, Reverse};
 pub use failure::{BySlot, Failure, first_failure};
 pub use first::{Precedes, first_at};
 pub use front::front_at;
@@ -26,7 +26,7 @@ pub use keys::{Distance, Period, Restoring, SlotRank, TimeLeft};
 pub use layers::{Key, Layer};
 pub use machine::Machine;
 pub use machine::tally::Tally;
-pub use named::{Deh, Del, Dml, Drel, El, Ml, Named};
+pub use named::{Deh, Del, Dml, Drel, El, Ml};
 pub use ranking::Ranking;
 pub use ready::ReadyFrame;
 pub use rule::Rule;

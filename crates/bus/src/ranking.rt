@@ -4,7 +4,7 @@ ghost use Rattle.std.specs.Str.{bytes_eq};
 ghost use Rattle.bus.specs.Orders.{orders};
 ghost use Rattle.bus.specs.Rankings.{meaning, named, word};
 
-use crate::named::{Deh, Del, Dml, Drel, El, Ml, Named};
+use crate::named::{Deh, Del, Dml, Drel, El, Ml};
 use crate::ready::ReadyFrame;
 use crate::rule::Rule;
 
@@ -69,12 +69,12 @@ impl Rule for Ranking {
 
     fn goes_before(&self, a: &ReadyFrame, b: &ReadyFrame) -> bool {
         match self {
-            Ranking::Del => Del::new().goes_before(a, b),
-            Ranking::Deh => Deh::new().goes_before(a, b),
-            Ranking::Dml => Dml::new().goes_before(a, b),
-            Ranking::Drel => Drel::new().goes_before(a, b),
-            Ranking::El => El::new().goes_before(a, b),
-            Ranking::Ml => Ml::new().goes_before(a, b),
+            Ranking::Del => Del::default().goes_before(a, b),
+            Ranking::Deh => Deh::default().goes_before(a, b),
+            Ranking::Dml => Dml::default().goes_before(a, b),
+            Ranking::Drel => Drel::default().goes_before(a, b),
+            Ranking::El => El::default().goes_before(a, b),
+            Ranking::Ml => Ml::default().goes_before(a, b),
         }
     }
 }

@@ -4,70 +4,65 @@
 ghost use Rattle.std.specs.Prelude.{◌≡◌};
 ghost use Rattle.refusal.specs.Numbers.{code, label};
 
+mod printing;
+
 // Why a call was refused. `number` gives what a refused call returns.
 #[derive(Clone, Copy, Debug, PartialEq, Eq)]
 pub enum Refusal {
-    // 1: the slot is above 7
-    SlotRange,
-    // 2: the period T lies outside 1 to 4,096
-    PeriodRange,
-    // 3: the relative deadline D lies outside 1 to T
-    DeadlineRange,
-    // 4: the service time C lies outside 1 to D
-    ServiceRange,
-    // 5: the window k lies outside 1 to 16
-    WindowRange,
-    // 6: the required number m lies outside 1 to k
-    RequiredRange,
-    // 7: the history has a one in bit k or above
-    HistoryWidth,
-    // 8: more than 65,535 units
-    UnitCount,
-    // 9: the file ends too soon
-    FileShort,
-    // 10: bit 6 or 7 of a field map stands
-    FieldUnknown,
-    // 11: the first record lacks the period
-    PeriodMissing,
-    // 12: bytes follow the last record
-    BytesFollow,
-    // 13: no ranking rule has this word
-    WordUnknown,
-    // 20: the slot is taken
-    SlotTaken,
-    // 21: the slot is empty
-    SlotEmpty,
-    // 22: the hyper-period would pass 36,864
-    HyperPeriodLimit,
-    // 23: the product of the counts of passing histories would pass 1,048,576
-    HistoryLimit,
-    // 24: the instant would pass 1,099,511,627,776
-    InstantLimit,
+    // the slot is above 7
+    SlotRange = 1,
+    // the period T lies outside 1 to 4,096
+    PeriodRange = 2,
+    // the relative deadline D lies outside 1 to T
+    DeadlineRange = 3,
+    // the service time C lies outside 1 to D
+    ServiceRange = 4,
+    // the window k lies outside 1 to 16
+    WindowRange = 5,
+    // the required number m lies outside 1 to k
+    RequiredRange = 6,
+    // the history has a one in bit k or above
+    HistoryWidth = 7,
+    // more than 65,535 units
+    UnitCount = 8,
+    // the file ends too soon
+    FileShort = 9,
+    // bit 6 or 7 of a field map stands
+    FieldUnknown = 10,
+    // the first record lacks the period
+    PeriodMissing = 11,
+    // bytes follow the last record
+    BytesFollow = 12,
+    // no ranking rule has this word
+    WordUnknown = 13,
+    // the slot is taken
+    SlotTaken = 20,
+    // the slot is empty
+    SlotEmpty = 21,
+    // the hyper-period would pass 36,864
+    HyperPeriodLimit = 22,
+    // the product of the counts of passing histories would pass 1,048,576
+    HistoryLimit = 23,
+    // the instant would pass 1,099,511,627,776
+    InstantLimit = 24,
 }
 
 impl Refusal {
+    // The number that a refused call returns.
     pub fn number(self) -> u8
         ensures { result ≡ code self }
     {
-        match self {
-            Refusal::SlotRange => 1,
-            Refusal::PeriodRange => 2,
-            Refusal::DeadlineRange => 3,
-            Refusal::ServiceRange => 4,
-            Refusal::WindowRange => 5,
-            Refusal::RequiredRange => 6,
-            Refusal::HistoryWidth => 7,
-            Refusal::UnitCount => 8,
-            Refusal::FileShort => 9,
-            Refusal::FieldUnknown => 10,
-            Refusal::PeriodMissing => 11,
-            Refusal::BytesFollow => 12,
-            Refusal::WordUnknown => 13,
-            Refusal::SlotTaken => 20,
-            Refusal::SlotEmpty => 21,
-            Refusal::HyperPeriodLimit => 22,
-            Refusal::HistoryLimit => 23,
-            Refusal::InstantLimit => 24,
+        self as u8
+    }
+
+    // The fault of an input that is refused so, at a place, by a layer.
+    pub fn at(self, place: usize, layer: Layer) -> Fault
+        ensures { result ≡ record { refusal = self; place = place; layer = layer } }
+    {
+        Fault {
+            refusal: self,
+            place,
+            layer,
         }
     }
 }
