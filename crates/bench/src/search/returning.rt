@@ -8,7 +8,7 @@ use crate::search::agreeing::agree;
 use crate::search::round::Round;
 use bus::{Failure, Machine, Rule};
 
-// Histories stand again before this boundary.
+// Histories stand again at this boundary at the latest: three times as far as a table has histories at most.
 const LAST_BOUNDARY: u64 = 3145728;
 
 impl<R: Rule> Running<R> {
