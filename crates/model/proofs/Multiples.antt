@@ -1,8 +1,7 @@
 -- The laws of the least common multiple: it is positive, both numbers divide it, and it divides every number that both divide.
 -- Assumes nothing.
-use Rattle.std.proofs.Common.{◌≡◌, ℕ, ◌+◌, ◌-◌, ◌*◌, ◌/◌, ◌%◌, ◌<◌, ◌≤◌, Bool, eqb, sym, ap, ◌∙◌, subst, inl, inr, mod-lt, mul-le-mul_left, arith}
-use native.Mathlib.Nat.{mul-mod_left, mul-mod_right, dvd_antisymm, dvd_of_mod-eq-zero, mod-eq-zero_of_dvd, mul-div_cancel', mod-mod_of_dvd, mod-one, mod_self, le_of_dvd, dvd_trans, dvd-sub}
-use lib.Arith.{lt_of_le-ne}
+use Rattle.std.proofs.Common.{◌≡◌, ℕ, ◌*◌, ◌/◌, ◌%◌, ◌<◌, ◌≤◌, Bool, eqb, ap, ◌∙◌, inl, inr, mod-lt, mul-le-mul_left, arith}
+use native.Mathlib.Nat.{mul-mod_left, mul-mod_right, dvd_antisymm, dvd_of_mod-eq-zero, mod-eq-zero_of_dvd, mul-div_cancel', mod-mod_of_dvd, mod-one, mod_self, le_of_dvd, dvd_trans}
 use Rattle.std.proofs.lemmas.Bool.{eqb-true, eq-eqb, cases_lt}
 use Rattle.std.proofs.lemmas.Nat.{le-div}
 use Rattle.firm.proofs.Searching.{first_above, first_at_most, first_holds}
@@ -45,14 +44,6 @@ module _ (a b : ℕ) (a-positive : 0 < a) (b-positive : 0 < b) where
 
   pub le_lcm_left : a ≤ lcm a b
   le_lcm_left = le_of_dvd lcm_positive (dvd_of_mod-eq-zero a divides_lcm_left)
-
-  -- a multiple of a that does not pass the least common one and that b does not divide: the next one does not pass it either
-  pub lcm_next : (q : ℕ) → Divides a q → (Divides b q → ⊥) → q ≤ lcm a b → q + a ≤ lcm a b
-  lcm_next q ha hb h =
-      let below : q < lcm a b =
-      lt_of_le-ne h (λ e. hb (subst (Divides b) (sym e) divides_lcm_right)) in
-      let gap : 0 < lcm a b - q = omega arith in
-      omega (arith, le_of_dvd gap (dvd-sub a (dvd_of_mod-eq-zero a divides_lcm_left) (dvd_of_mod-eq-zero a ha)))
 
 pub divides_trans : (a b c : ℕ) → Divides a b → Divides b c → Divides a c
 divides_trans a b c h k = mod-eq-zero_of_dvd a (dvd_trans a (dvd_of_mod-eq-zero a h) (dvd_of_mod-eq-zero b k))

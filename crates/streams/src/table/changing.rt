@@ -14,10 +14,8 @@ impl Table {
     fn taken(&self, slot: u64) -> Result<Stream, Refusal>
         ensures { on_ok stream_of result ≡ taken (table_of self.now) slot }
     {
-        if slot > 7 {
-            return Err(Refusal::SlotRange);
-        }
-        self.stream(slot).ok_or(Refusal::SlotEmpty)
+        let stream = self.slots.get(slot as usize).ok_or(Refusal::SlotRange)?;
+        stream.ok_or(Refusal::SlotEmpty)
     }
 
     // The table with a slot emptied, or the first refusal: the slot above 7, the slot empty.
@@ -29,6 +27,7 @@ impl Table {
         slots[slot as usize] = None;
         Ok(Table { slots })
     }
+
     // Writes the history of the stream in a slot, or gives the first refusal: the slot above 7, the slot empty,
     // a one in bit k or above.
     pub fn prime(&mut self, slot: u64, history: u64) -> Result<(), Refusal>

@@ -22,13 +22,7 @@ impl Table {
         ensures value { result ≡ histories (table_of self.now) }
         ensures some { 1 ≤ result }
     {
-        let mut n = 1;
-        for slot in &self.slots {
-            if let Some(stream) = slot {
-                n *= count_passing(stream);
-            }
-        }
-        n
+        self.slots.iter().flatten().map(count_passing).product()
     }
 
     // Whether the number of histories stays within its limit with one more stream.

@@ -8,21 +8,25 @@ use crate::table::Table;
 // The hyper-period of a table may not pass this.
 const HYPER_PERIOD_LIMIT: u32 = 36864;
 
-// The least common multiple of a and b, or `None` where it passes the limit: the multiples of a, one after the other.
+// The least common multiple of a and b, or `None` where it passes the limit: the first multiple of a that b divides.
 fn common_multiple(a: u32, b: u32) -> Option<u32>
     requires left { 0 < a }
     requires right { 0 < b }
     requires within { a ≤ 36864 }
     ensures { result ≡ (if nat_lt 36864 (lcm a b) then None else Some (lcm a b)) }
 {
-    let mut multiple = a;
-    while multiple <= HYPER_PERIOD_LIMIT {
-        if multiple % b == 0 {
-            return Some(multiple);
-        }
-        multiple += a;
-    }
-    None
+    (1..HYPER_PERIOD_LIMIT / a + 1)
+        .map(|times| a * times)
+        .find(|multiple| multiple % b == 0)
+}
+
+// The least common multiple of a hyper-period so far and the period of one stream more, which is known to stay within the limit.
+fn with_period(p: u32, stream: &Stream) -> u32
+    requires positive { 0 < p }
+    requires within { lcm p stream.now.period ≤ 36864 }
+    ensures { result ≡ lcm p stream.now.period }
+{
+    common_multiple(p, u32::from(stream.period())).unwrap()
 }
 
 impl Table {
@@ -31,13 +35,7 @@ impl Table {
         ensures value { result ≡ hyper_period (table_of self.now) }
         ensures least { LeastCommon (table_of self.now) result }
     {
-        let mut p = 1;
-        for slot in &self.slots {
-            if let Some(stream) = slot {
-                p = common_multiple(p, u32::from(stream.period())).unwrap();
-            }
-        }
-        p
+        self.slots.iter().flatten().fold(1, with_period)
     }
 
     // Whether the hyper-period stays within its limit with one more stream.

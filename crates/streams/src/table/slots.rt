@@ -20,11 +20,7 @@ impl Table {
     pub fn stream(&self, slot: u64) -> Option<Stream>
         ensures { slot_of result ≡ slice_index_or (table_of self.now) slot None }
     {
-        if slot < 8 {
-            self.slots[slot as usize]
-        } else {
-            None
-        }
+        self.slots.get(slot as usize).copied().flatten()
     }
 
     // The table with one more stream, or the first refusal: the slot above 7, the slot taken, the hyper-period above its limit,

@@ -1,35 +1,33 @@
-use Rattle.std.proofs.Common.{◌≡◌, ◌*◌, ◌≤◌, sym, ap, ◌∙◌, subst, arith}
-use Rattle.model.specs.Tables.{histories, passing_count}
+-- The product of the streams' counts is the number of histories, which bounds each product on the way.
+use Rattle.std.proofs.Common.{◌*◌, ◌∙◌, arith, rules}
+use Rattle.std.proofs.lemmas.Iterator.{YieldsList-from_map}
+use Rattle.std.proofs.lemmas.Iterator.Adapters.{total_from_yields_List}
+use Rattle.std.proofs.lemmas.Iterator.Consumers.{YieldsList-at}
+use Rattle.model.specs.Tables.{passing_count}
 use Rattle.model.proofs.Counts.{histories_positive}
 use Rattle.streams.specs.Stands.{stream_of, slots_of}
-use Rattle.streams.proofs.Slots.{Counts, slots_passable, counts_within, counts_stream, counts_empty, counts_all}
+use Rattle.streams.proofs.Present.{flatten_gives}
+use Rattle.streams.proofs.Products.{counts_positive, product_counts, product_fits}
+use Rattle.streams.proofs.Slots.{slots_passable}
 use Rattle.streams.proofs.table.Table.history_count.Goals as goal
-use Rattle.streams.proofs.table.Table.history_count.Goals.{in-Some, in_default}
+use Rattle.streams.proofs.table.Table.history_count.Goals.{After-map}
 
--- the number of histories of the whole table bounds each product on the way
-pub overflow_mul-n : goal.overflow_mul-n
-overflow_mul-n c =
+pub product-requires-clause-fits : goal.product-requires-clause-fits
+product-requires-clause-fits c =
     let slots = c.args.self.now.slots in
-    let n = c.loop-slot.n in
-    let e : n * c.count_passing-n.result ≡ n * passing_count (stream_of c.in-Some.stream) = ap (λ r. n * r) c.count_passing-n.ensures in
-    let within : n * passing_count (stream_of c.in-Some.stream) ≤ histories (slots_of slots) =
-    counts_within slots _ _ (counts_stream slots _ n c.in-Some.stream _ (omega arith) c.in-Some.is c.loop-slot.invariant) in
-    omega arith
+    product_fits c.map.result _
+    (YieldsList-from_map _ (λ s. passing_count (stream_of s)) (YieldsList-at c.map.ensures.source
+    (flatten_gives (λ x j b. (b.0, b.1)) c.flatten.result slots (cc) c.flatten.ensures.front c.flatten.ensures.back c.flatten.ensures.done)) c.map.ensures.closure (λ x r q k. search rules))
+    (counts_positive slots)
+    (omega (arith, product_counts slots))
 
-pub loop-slot-preserved : goal.loop-slot-preserved
-loop-slot-preserved c =
+pub returns-clause-value : goal.returns-clause-value
+returns-clause-value c =
     let slots = c.args.self.now.slots in
-    let i = c.loop-slot.slot-index in
-    let n = c.loop-slot.n in
-    elim c.match-slot.branch [
-      | in-Some w ↦
-          let e : c.match-slot.n ≡ n * passing_count (stream_of w.in-Some.stream) = w.n-is ∙ ap (λ r. n * r) w.count_passing-n.ensures in
-          subst (Counts slots _) (sym e) (counts_stream slots i n w.in-Some.stream _ (omega arith) w.in-Some.is c.loop-slot.invariant)
-      | in_default w ↦ subst (Counts slots _) (sym w.n-is) (counts_empty slots i n _ (omega arith) w.in_default.is c.loop-slot.invariant)
-    ]
+    total_from_yields_List (λ a n. a * n) 1 c.product.result c.product.ensures.ran
+    (YieldsList-from_map _ (λ s. passing_count (stream_of s)) (YieldsList-at c.map.ensures.source
+    (flatten_gives (λ x j b. (b.0, b.1)) c.flatten.result slots (cc) c.flatten.ensures.front c.flatten.ensures.back c.flatten.ensures.done)) c.map.ensures.closure (λ x r q k. search rules))
+    ∙ product_counts slots
 
-pub returns : goal.returns
-returns c =
-    let slots = c.args.self.now.slots in
-    let e : c.loop-slot.n ≡ histories (slots_of slots) = counts_all slots _ _ (omega arith) c.loop-slot.invariant in
-    record { value = e; some = omega (arith, histories_positive (slots_of slots) (slots_passable slots)) }
+pub returns-clause-some : goal.returns-clause-some
+returns-clause-some c = omega (arith, returns-clause-value c, histories_positive (slots_of c.args.self.now.slots) (slots_passable c.args.self.now.slots))

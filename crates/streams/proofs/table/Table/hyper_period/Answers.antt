@@ -1,44 +1,34 @@
-use Rattle.std.proofs.Common.{◌≡◌, ◌≤◌, sym, ap, ◌∙◌, subst, arith}
-use Rattle.model.specs.Tables.{LeastCommon, lcm, hyper_period}
+-- The fold of the streams' periods is the hyper-period, which bounds each multiple on the way.
+use Rattle.std.proofs.Common.{sym, subst, ◌∙◌, arith, rules, take}
+use Rattle.std.proofs.lemmas.Iterator.Consumers.{fold_from_yields_List}
+use Rattle.model.specs.Tables.{LeastCommon, lcm}
 use Rattle.model.proofs.Periods.{hyper_least_common}
-use Rattle.std.proofs.lemmas.Bool.Decides.{nat_tests}
 use Rattle.streams.specs.Stands.{slots_of}
-use Rattle.streams.proofs.Slots.{Repeats, slots_periodic, repeats_none, repeats_within, repeats_stream, repeats_empty, repeats_all}
+use Rattle.streams.proofs.Folds.{serves_fold}
+use Rattle.streams.proofs.Periods.{joint_positive, joint_within, joint_present, present}
+use Rattle.streams.proofs.Present.{flatten_gives}
+use Rattle.streams.proofs.Slots.{slots_periodic}
 use Rattle.streams.proofs.table.Table.hyper_period.Goals as goal
-use Rattle.streams.proofs.table.Table.hyper_period.Goals.{in-Some, in_default}
 
-pub loop-slot-init : goal.loop-slot-init
-loop-slot-init c = repeats_none c.args.self.now.slots
-
-pub common_multiple-requires : goal.common_multiple-requires
-common_multiple-requires c = omega (arith, repeats_within _ _ _ c.loop-slot.invariant)
-
--- the hyper-period of the whole table bounds each multiple on the way
-pub unwrap-p-requires : goal.unwrap-p-requires
-unwrap-p-requires c =
+pub fold-requires-clause-callable : goal.fold-requires-clause-callable
+fold-requires-clause-callable c =
     let slots = c.args.self.now.slots in
-    let p = c.loop-slot.p in
-    let e : lcm p c.from.result ≡ lcm p c.in-Some.stream.period = ap (lcm p) (c.from.ensures ∙ c.period.ensures) in
-    let within : lcm p c.in-Some.stream.period ≤ hyper_period (slots_of slots) =
-    repeats_within slots _ _ (repeats_stream slots _ p c.in-Some.stream _ (omega arith) c.in-Some.is c.loop-slot.invariant) in
-    grind (arith, nat_tests)
+    serves_fold (λ y. y.now) (λ p s. lcm p s.period) (tt {0}) _ (λ n x q r. search rules) _ 1
+    (flatten_gives (λ x j b. (b.0, b.1)) c.flatten.result slots (cc) c.flatten.ensures.front c.flatten.ensures.back c.flatten.ensures.done)
+    (λ k x l e. (
+      joint_positive 1 (take k (present slots)) (omega arith),
+      omega (arith, joint_within 1 k (present slots) x.now (omega arith) l e, joint_present slots),
+    ))
 
-pub loop-slot-preserved : goal.loop-slot-preserved
-loop-slot-preserved c =
+pub returns-clause-value : goal.returns-clause-value
+returns-clause-value c =
     let slots = c.args.self.now.slots in
-    let i = c.loop-slot.slot-index in
-    let p = c.loop-slot.p in
-    elim c.match-slot.branch [
-      | in-Some w ↦
-          let next : Repeats slots _ (lcm p w.in-Some.stream.period) =
-          repeats_stream slots i p w.in-Some.stream _ (omega arith) w.in-Some.is c.loop-slot.invariant in
-          let e : lcm p w.from.result ≡ lcm p w.in-Some.stream.period = ap (lcm p) (w.from.ensures ∙ w.period.ensures) in
-          subst (Repeats slots _) (grind (arith, nat_tests)) next
-      | in_default w ↦ subst (Repeats slots _) (sym w.p-is) (repeats_empty slots i p _ (omega arith) w.in_default.is c.loop-slot.invariant)
-    ]
+    fold_from_yields_List _ (λ p s. lcm p s.period) 1 c.fold.result c.fold.ensures.ran
+    (flatten_gives (λ x j b. (b.0, b.1)) c.flatten.result slots (cc) c.flatten.ensures.front c.flatten.ensures.back c.flatten.ensures.done)
+    (λ a x b q k. search rules)
+    ∙ joint_present slots
 
-pub returns : goal.returns
-returns c =
+pub returns-clause-least : goal.returns-clause-least
+returns-clause-least c =
     let slots = c.args.self.now.slots in
-    let e : c.loop-slot.p ≡ _ = repeats_all slots _ _ (omega arith) c.loop-slot.invariant in
-    record { value = e; least = subst (LeastCommon (slots_of slots)) (sym e) (hyper_least_common (slots_of slots) (slots_periodic slots)) }
+    subst (LeastCommon (slots_of slots)) (sym (returns-clause-value c)) (hyper_least_common (slots_of slots) (slots_periodic slots))

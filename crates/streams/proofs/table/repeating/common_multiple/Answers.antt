@@ -1,25 +1,17 @@
--- A multiple of a that b divides is the least common one, since none beyond that is tried; one that b does not divide lies below it.
-use Rattle.std.proofs.Common.{◌≡◌, ◌∙◌, arith}
-use native.Mathlib.Nat.{mod_self, add-mod_right}
-use Rattle.model.specs.Tables.{lcm}
-use Rattle.model.proofs.Multiples.{le_lcm_left, lcm_least, lcm_next}
-use Rattle.std.proofs.lemmas.Bool.Decides.{nat_tests}
+-- The first of the multiples that is found is the least common one, and it lies within the limit where there is one.
+use Rattle.std.proofs.Common.{◌≡◌, ◌+◌, ◌*◌, ◌/◌, ◌%◌, refl, arith, rules}
+use borrow.Author.Tests.{tests}
+use Rattle.std.proofs.lemmas.Iterator.{YieldsList-from_range, YieldsList-from_map, first_from_find}
+use Rattle.std.proofs.lemmas.Iterator.Consumers.{YieldsList-at}
+use Rattle.streams.proofs.Multiples.{first_multiple}
 use Rattle.streams.proofs.table.repeating.common_multiple.Goals as goal
 
-pub loop-multiple-init : goal.loop-multiple-init
-loop-multiple-init c = (c.requires.left, mod_self c.args.a, le_lcm_left _ _ c.requires.left c.requires.right)
-
-pub returns-then-multiple-b-eq0 : goal.returns-then-multiple-b-eq0
-returns-then-multiple-b-eq0 c =
-    let q = c.loop-multiple.multiple in
-    let e : q ≡ lcm c.args.a c.args.b =
-    omega (arith, lcm_least _ _ c.requires.left c.requires.right q c.loop-multiple.invariant.0 c.loop-multiple.invariant.1 c.if-multiple-b-eq0.true) in
-    grind (arith, nat_tests)
-
-pub loop-multiple-preserved : goal.loop-multiple-preserved
-loop-multiple-preserved c =
-    let q = c.loop-multiple.multiple in (
-      omega arith,
-      add-mod_right q c.args.a ∙ c.loop-multiple.invariant.1,
-      lcm_next _ _ c.requires.left c.requires.right q c.loop-multiple.invariant.1 c.if-multiple-b-eq0.false c.loop-multiple.invariant.2,
-    )
+pub returns : goal.returns
+returns c =
+    let a = c.args.a in
+    let b = c.args.b in
+    let n = 36864 / a in
+    first_multiple a b n c.requires.left c.requires.right 36864 refl c.find.result
+    (first_from_find _ _ c.find.result (λ m. m % b ≡ 0) (λ m. m % b ≡ 0 → ⊥) c.find.ensures.ran
+    (YieldsList-from_map _ (λ j. a * j) (YieldsList-at c.map.ensures.source (YieldsList-from_range 1 (n + 1) n refl (omega arith))) c.map.ensures.closure (λ x r q k. search rules))
+    (λ x q k. search (rules, tests)) (λ x q k. search (rules, tests)))
