@@ -4,6 +4,8 @@ ghost use Rattle.bus.specs.Rules.{by_distance, by_restoring, by_left, by_period,
 use crate::layers::Key;
 use crate::ready::ReadyFrame;
 
+// A type for each number and not one type that is told which: so the type of a rule names its keys.
+
 // D: the distance of the stream's history.
 #[derive(Clone, Copy, Default)]
 pub struct Distance;

@@ -1,4 +1,3 @@
-// The ranking rules that have a word; its letters name a rule's keys from the first to the last.
 ghost use Rattle.std.specs.Prelude.{◌≡◌};
 ghost use Rattle.std.specs.Str.{bytes_eq};
 ghost use Rattle.bus.specs.Orders.{orders};
@@ -8,6 +7,7 @@ use crate::named::{Deh, Del, Dml, Drel, El, Ml};
 use crate::ready::ReadyFrame;
 use crate::rule::Rule;
 
+// The ranking rules that a word names; its letters name a rule's keys from the first to the last.
 #[derive(Clone, Copy, Debug, PartialEq, Eq)]
 pub enum Ranking {
     Del,
@@ -19,6 +19,7 @@ pub enum Ranking {
 }
 
 impl Ranking {
+    // All of them, in the order in which a word is looked up.
     pub const ALL: [Ranking; 6] = [
         Ranking::Del,
         Ranking::Deh,
@@ -60,6 +61,7 @@ impl Ranking {
     }
 }
 
+// A rule that is told when it runs which of them it is. Where the rule is known, its own type asks nothing.
 impl Rule for Ranking {
     ghost before = { meaning };
 

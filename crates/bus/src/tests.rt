@@ -4,6 +4,7 @@ use crate::front::front_at;
 use crate::keys::{Distance, Period, Restoring, SlotRank, TimeLeft};
 use crate::layers::{Key, Layer};
 use crate::named::*;
+use crate::ranking::Ranking;
 use crate::ready::ReadyFrame;
 use crate::rule::Rule;
 use std::test::Fail;
@@ -152,5 +153,29 @@ fn firsts(rt: HostRuntime) -> Result<(), Fail> {
         [first_failure(&failures), first_failure(&[])],
         [Some(1), None]
     );
+    Ok(())
+}
+
+// Each word names its ranking rule, and no other word names one.
+#[test]
+fn words(rt: HostRuntime) -> Result<(), Fail> {
+    for ranking in Ranking::ALL {
+        assert_eq!(rt; Ranking::named(ranking.word().as_bytes()), Some(ranking));
+    }
+    for text in ["", "DE", "del", "DELL", "DHE"] {
+        assert_eq!(rt; Ranking::named(text.as_bytes()), None);
+    }
+    Ok(())
+}
+
+#[test]
+fn failure_texts(rt: HostRuntime) -> Result<(), Fail> {
+    let failure = Failure {
+        slot: 6,
+        frame: 12,
+        instant: 340,
+    };
+    let text = failure.to_string(rt.alloc())?;
+    assert_eq!(rt; text.as_str(), "slot 6 frame 12 instant 340");
     Ok(())
 }

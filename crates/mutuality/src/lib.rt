@@ -11,6 +11,7 @@ use bus::{ReadyFrame, Rule, front_at};
 
 // The stream that can lose the fewest more frames first, after those that it loses while the longest other frame is sent;
 // equal margins are left to the rule below.
+// It is no `Layer` over a key, for it shows that a layer of another's needs only the public face of `bus` too.
 #[derive(Clone, Copy, Drop)]
 pub struct Mutuality<R: Rule> {
     longest: u16,

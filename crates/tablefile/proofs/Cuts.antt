@@ -1,5 +1,5 @@
 -- What is known of a record that was cut out of a file. Assumes nothing.
-use Rattle.std.proofs.Common.{◌≡◌, ℕ, ◌+◌, ◌<◌, ◌≤◌, Bool, true, false, cond, not, ltb, leb, List, length, get_or, take, drop, Ok, Err, Result, sym, refl, ap, ◌∙◌, add-zero, arith, length-drop, length-take-le, get_or-drop, get_or-take, ltb-false, le-ltb, lt-ltb, leb-false}
+use Rattle.std.proofs.Common.{◌≡◌, ℕ, ◌+◌, ◌-◌, ◌<◌, ◌≤◌, Bool, true, false, cond, not, ltb, leb, List, length, get_or, take, drop, Ok, Err, Result, sym, refl, ap, ◌∙◌, add-zero, arith, length-drop, length-take-le, get_or-drop, get_or-take, ltb-false, le-ltb, lt-ltb, leb-false}
 use Rattle.refusal.specs.Tests.{and_then}
 use Rattle.refusal.specs.declared.Fault.{Fault}
 use Rattle.refusal.specs.declared.Refusal.TheVariants.{FieldUnknown, PeriodMissing}
@@ -35,6 +35,12 @@ module _ (file : List ℕ) (place : ℕ) (first : Bool) where
 
   pub cut_whole : (map : ℕ) → Ok map ≡ field_map file place first → place + extent map ≤ length file → Ok (take (extent map) (drop place file)) ≡ cut file place first
   cut_whole map is fits = sym (ap (λ b. cond b (Err (short file)) (Ok (take (extent map) (drop place file)))) (le-ltb (length file) (place + extent map) fits)) ∙ cut_mapped map is
+
+  -- as many bytes of the file as a field map says, from the place on
+  pub cut_part : (map len : ℕ) → Ok map ≡ field_map file place first → len ≡ extent map → place + len ≤ length file → Ok (take (place + len - place) (drop place file)) ≡ cut file place first
+  cut_part map len is size fits =
+      let whole : place + len - place ≡ extent map = omega arith in
+      ap (λ n. Ok (take n (drop place file))) whole ∙ cut_whole map is (omega arith)
 
   -- a record has as many bytes as its field map says, and lies in the file where it was cut
   pub record Whole (r : List ℕ) : Type 0 where

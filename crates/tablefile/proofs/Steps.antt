@@ -54,9 +54,8 @@ module _ (file : List ℕ) (i : ℕ) (p : Progress) where
   next_laid r s t c e b = next_cut r c ∙ then_ok _ e ∙ then_ok _ b
 
 -- what a layer of the code answers, marked with its place, is what the layer of the layout answers
-pub through : {A B : Type 0} {place at : ℕ} {b : Result B Refusal} {e : Result A Fault} (who : Layer) (f : A → B) (r : Result A Refusal) → place ≡ at → on_ok f r ≡ b → e ≡ located place who r → located at who b ≡ on_ok f e
-through {at = at} who f r here same is =
-    ap (located at who) (sym same) ∙ sym (located_on at who f r) ∙ ap (on_ok f) (ap (λ n. located n who r) (sym here) ∙ sym is)
+pub through : {A B : Type 0} {b : Result B Refusal} {e : Result A Fault} (place : ℕ) (who : Layer) (f : A → B) (r : Result A Refusal) → on_ok f r ≡ b → e ≡ located place who r → located place who b ≡ on_ok f e
+through place who f r same is = ap (located place who) (sym same) ∙ sym (located_on place who f r) ∙ ap (on_ok f) (sym is)
 
 module _ (file : List ℕ) where
   slots_more : (i : ℕ) (p : Progress) → slots file i ≡ Ok p → slots file (i + 1) ≡ cond (stands (get_or file 0 0) i) (next file i p) (Ok p)

@@ -1,16 +1,17 @@
 // A record as a part of the file's bytes, and the reader that hands it out.
-ghost use Rattle.std.specs.Prelude.{◌≤◌, length};
+ghost use Rattle.std.specs.Prelude.{◌≡◌, ◌≤◌, length, slice_index};
+ghost use Rattle.model.specs.Fields.{extent};
 
 use streams::Table;
 
-pub mod cutting;
-pub mod walking;
+pub(crate) mod cutting;
+mod walking;
 
-// One record: its bytes, the field map first, and the place of its field map in the file.
+// One record: its bytes, the field map first, and as many of them as the map says.
 #[derive(Clone, Copy)]
 pub struct Record<'a> {
-    pub place: usize,
     pub bytes: &'a [u8],
+    ghost whole: { length bytes.now ≡ extent (slice_index bytes.now 0) },
 }
 
 // Walks over a file, record by record: the next one begins at `at`, the one before it has the period `before`,

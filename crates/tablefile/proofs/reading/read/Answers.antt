@@ -23,7 +23,7 @@ returns-in_err-lay_all c =
 pub returns-then-reader-file : goal.returns-then-reader-file
 returns-then-reader-file c =
     let some : 0 < length c.args.file.now = search rules in
-    let v = sym (judged_more c.args.file.now _ some c.in_ok-lay_all.ensures.cases c.if-reader-file.true) in record { value = v; exactly = exact c.args.file.now _ v }
+    let v = ap Err c.at.ensures ∙ sym (judged_more c.args.file.now _ some c.in_ok-lay_all.ensures.cases c.if-reader-file.true) in record { value = v; exactly = exact c.args.file.now _ v }
 
 pub returns : goal.returns
 returns c =
