@@ -1,14 +1,12 @@
 -- The figures of a forecast that holds, measured from its first boundary of the two. Assumes nothing.
-use Rattle.std.proofs.Common.{◌≡◌, ℕ, ◌+◌, ◌-◌, ◌*◌, ◌%◌, ◌<◌, ◌≤◌, Bool, Some, None, Option, Ok, Err, Result, ap, ◌∙◌, le_refl, add-mul, mul-le-mul, one-mul, arith, rules}
+use Rattle.std.proofs.Common.{◌≡◌, ℕ, ◌+◌, ◌-◌, ◌*◌, ◌%◌, ◌<◌, ◌≤◌, Bool, Ok, Err, Result, ap, ◌∙◌, le_refl, add-mul, mul-le-mul, one-mul, arith, rules}
 use Rattle.std.specs.Result.{IsOk}
 use Rattle.model.specs.Bench.{last_instant}
-use Rattle.model.specs.Figures.{Figures, Measures, figures}
-use Rattle.model.specs.Forecast.{table_of, period_of, units_to, Holds, Fails}
+use Rattle.model.specs.Forecast.{table_of, period_of, units_to, Holds}
 use Rattle.model.specs.Forecast.Answer.{holds, fails}
 use Rattle.model.specs.Machine.{State}
 use Rattle.model.specs.Ready.{Ready}
 use Rattle.model.specs.Tables.{Table, hyper_period, histories}
-use Rattle.model.specs.Tally.{Failure}
 use Rattle.laws.specs.Sound.{Sound}
 use Rattle.promise.proofs.Boundaries.{units_are, period_positive}
 use Rattle.promise.proofs.Single.{one_answer}
@@ -18,24 +16,6 @@ use Rattle.bench.specs.Searches.{Walks}
 use Rattle.bench.proofs.Foretelling.{period_is, count_is, less, units_are_first}
 
 module _ (before : Ready → Ready → Bool) (s : State) (h : Sound s) where
-  -- the figures of the only answer
-  pub measures_holding : (i j : ℕ) (r : Option Figures) → Holds before s i j → r ≡ Some (figures before s i j) → Measures before s r
-  measures_holding i j r there e = record {
-    holding = λ a b other.
-        let same : holds i j ≡ holds a b = one_answer before s h (holds i j) (holds a b) there other in cc;
-    failing = λ f other.
-        let same : holds i j ≡ fails f = one_answer before s h (holds i j) (fails f) there other in
-        absurd (let z : ◌≡◌ {A = ℕ} 0 1 = cc in omega arith);
-  }
-
-  pub measures_failing : (f : Failure) (r : Option Figures) → Fails before s f → r ≡ None → Measures before s r
-  measures_failing f r there e = record {
-    holding = λ i j other.
-        let same : fails f ≡ holds i j = one_answer before s h (fails f) (holds i j) there other in
-        absurd (let z : ◌≡◌ {A = ℕ} 0 1 = cc in omega arith);
-    failing = λ g other. e;
-  }
-
   -- where the forecast holds, a walk comes to its end
   pub walk_is_ok : (i j : ℕ) → Holds before s i j → (n : ℕ) (x : State) (r : Result (Unit {0}) note.Failure) → Walks before s n x r → IsOk r
   walk_is_ok i j holding n x (Ok u) w = search rules

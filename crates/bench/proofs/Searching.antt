@@ -50,9 +50,6 @@ module _ (before : Ready → Ready → Bool) (m : Machine) (asked : ℕ) (search
   pub walk_fails : (i : ℕ) (w : State) → At before x i w → (f : Failure) → Fails before w f → Fails before x f
   walk_fails i w a f there = at_fails before x h from.on i w f a there
 
-  pub first_room : (n : ℕ) → n ≤ 3 * histories (table_of x) → x.now + n * period ≤ machine_limit
-  first_room n soon = at_room 0 n x (at_first before x h from.on) (omega arith)
-
   pub at_far : (n : ℕ) (v : State) → Walked before x (n * period) v → At before x n v
   at_far n v b =
       subst (λ k. At before x k v) (omega arith)
@@ -60,10 +57,6 @@ module _ (before : Ready → Ready → Bool) (m : Machine) (asked : ℕ) (search
 
   pub turn_first : Turn before x 0 1 x x
   turn_first = (0, omega arith, hunt_first before x h from.on)
-
-  -- it comes before the last boundary of a search
-  pub turn_soon : (i to : ℕ) (kept walker : State) → Turn before x i to kept walker → to ≤ 3145728
-  turn_soon i to kept walker turn = omega (arith, turn.1, turn.2.short, from.few)
 
   module _ (i to : ℕ) (kept walker : State) (turn : Turn before x i to kept walker) where
     pub turn_room : walker.now + period ≤ machine_limit

@@ -1,13 +1,11 @@
 -- What is told of some outcomes and then of others. Assumes nothing.
-use Rattle.std.proofs.Common.{◌≡◌, ℕ, suc, ◌+◌, ◌<◌, ◌≤◌, Bool, true, false, cond, not, List, [], ◌∷◌, ◌++◌, length, get_or, drop, is_some, Some, None, Option, sym, refl, ap, ◌∙◌, subst, add_assoc, add-zero, zero-add, add-one, arith, lit≤}
+use Rattle.std.proofs.Common.{◌≡◌, ℕ, ◌+◌, ◌<◌, ◌≤◌, Bool, true, false, cond, not, List, [], ◌∷◌, ◌++◌, length, get_or, drop, is_some, Some, None, Option, sym, refl, ap, ◌∙◌, subst, add_assoc, add-zero, zero-add, add-one, arith, lit≤}
 use Rattle.std.proofs.lemmas.List.{drop_more, drop_all}
 use Rattle.std.specs.Bool.{then_some}
-use Rattle.std.specs.Option.{option_map}
 use Rattle.firm.specs.declared.outcome.Outcome as firm
 use Rattle.firm.specs.declared.outcome.Outcome.TheVariants.{Met, Missed}
-use Rattle.model.specs.Machine as model
 use Rattle.model.specs.Machine.{Row, Rows, Outcome, dropped, drops}
-use Rattle.model.specs.Tally.{Tally, Failure, how_many, soonest, failure_of, first_failure, tally}
+use Rattle.model.specs.Tally.{Tally, Failure, how_many, soonest, first_failure, tally}
 use Rattle.model.proofs.Tallies.{how_many_append, soonest_assoc, first_failure_append}
 use Rattle.bus.specs.Endings.{is_met, told_of, AtMost}
 use Rattle.bus.specs.Tallies.{together}
@@ -86,14 +84,18 @@ unfolding drops
 drops_from u i None rows = rw add-one refl
 drops_from u i (Some r) rows = rw add-one refl
 
--- t tells of what was told before and of the drops of the first i slots
-pub record Told (u : ℕ) (rows : Rows) (before t : Tally) (i : ℕ) : Type 0 where
-  pub few : AtMost (1 + i) t
-  pub whole : together t (tally (drops u i (drop i rows))) ≡ together before (tally (drops u 0 rows))
+-- t tells of the drops of the first i slots
+pub record Told (u : ℕ) (rows : Rows) (t : Tally) (i : ℕ) : Type 0 where
+  pub few : AtMost i t
+  pub whole : together t (tally (drops u i (drop i rows))) ≡ tally (drops u 0 rows)
 
-module _ (u : ℕ) (rows : Rows) (before t : Tally) (i : ℕ) where
+module _ (u : ℕ) (rows : Rows) (t : Tally) where
+  pub told_start : t ≡ tally [] → Told u rows t 0
+  told_start e = record { few = none_few 0 t e; whole = ap (λ n. together n (tally (drops u 0 rows))) e ∙ nothing_and _ }
+
+module _ (u : ℕ) (rows : Rows) (t : Tally) (i : ℕ) where
   pub told_more : (o : Option Row) (e : Option Ended) → i < length rows → o ≡ get_or rows i None → told_of e ≡ tally (dropped_in u i o)
-      → Told u rows before t i → Told u rows before (together t (told_of e)) (i + 1)
+      → Told u rows t i → Told u rows (together t (told_of e)) (i + 1)
   told_more o e within read one h =
       let rest : List Outcome = drops u (i + 1) (drop (i + 1) rows) in
       let here : drops u i (drop i rows) ≡ dropped_in u i o ++ rest =
@@ -107,11 +109,11 @@ module _ (u : ℕ) (rows : Rows) (before t : Tally) (i : ℕ) where
             ∙ h.whole;
       }
 
-  pub told_empty : i < length rows → None ≡ get_or rows i None → Told u rows before t i → Told u rows before t (i + 1)
+  pub told_empty : i < length rows → None ≡ get_or rows i None → Told u rows t i → Told u rows t (i + 1)
   told_empty within read h =
-      subst (λ s. Told u rows before s (i + 1)) (ap (together t) told_none ∙ and_nothing t) (told_more None None within read told_none h)
+      subst (λ s. Told u rows s (i + 1)) (ap (together t) told_none ∙ and_nothing t) (told_more None None within read told_none h)
 
-  pub told_all : length rows ≤ i → Told u rows before t i → t ≡ together before (tally (drops u 0 rows))
+  pub told_all : length rows ≤ i → Told u rows t i → t ≡ tally (drops u 0 rows)
   unfolding drops
   told_all past h =
       sym (and_nothing t) ∙ ap (λ l. together t (tally (drops u i l))) (sym (drop_all i rows past)) ∙ h.whole

@@ -1,5 +1,5 @@
 -- How a frame ended, and what is told of it. Assumes nothing.
-use Rattle.std.specs.Prelude.{ℕ, ◌≤◌, Bool, true, false, cond, not, is_some, Some, None, Option}
+use Rattle.std.specs.Prelude.{ℕ, ◌≤◌, Bool, true, false, cond, is_some, Some, None, Option}
 use Rattle.std.specs.Option.{option_map}
 use Rattle.firm.specs.declared.outcome.Outcome.{Outcome}
 use Rattle.firm.specs.declared.outcome.Outcome.TheVariants.{Met, Missed}

@@ -11,7 +11,7 @@ pub mod Frames
 pub mod Rows
 pub mod States
 pub mod Machines
+pub mod Tallies
 -- the machine, inside
 pub mod Waiting
 pub mod Endings
-pub mod Tallies

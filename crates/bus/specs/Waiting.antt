@@ -1,4 +1,4 @@
--- What has to be known of the frames that wait, and which of them wait. Assumes nothing.
+-- The frames that wait: what has to be known of them, what the code shows of them, and which of two goes ahead. Assumes nothing.
 use Rattle.std.specs.Prelude.{◌≡◌, ℕ, ◌+◌, ◌≤◌, Bool, false, cond, is_some, Some, None, Option, slice_index_or}
 use Rattle.model.specs.Machine as model
 use Rattle.model.specs.Machine.{Row, Rows, born, due, release_row}

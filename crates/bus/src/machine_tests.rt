@@ -2,33 +2,31 @@ use crate::bottoms::{Higher, Lower};
 use crate::keys::{Distance, Period, Restoring, SlotRank, TimeLeft};
 use crate::layers::{Key, Layer};
 use crate::named::{Deh, Del, Dml, Drel, El, Ml};
-use crate::tests::{FIRST, LATEST, NONE, OLDEST, ONE, SECOND, TIE, TIE_BACK};
+use crate::tests::{Waiting, pairs_in_order};
 use crate::{Failure, Machine, Rule, first_failure};
 use std::process::Abort;
 use std::test::Fail;
 use streams::{Numbers, Stream, Table};
 
-// A stream of service time 1 that needs 2 of 4, by its slot, period, deadline and history. At instant 0 its deadline is the time left.
-type Placed = (u64, u64, u64, u64);
-
 // Whether the first of two streams is sent before the second in a quiet unit from the start: then an outcome has entered its history.
-fn is_sent_first<R: Rule>(rt: &impl Abort, rule: &R, pair: [Placed; 2]) -> Result<bool, Fail> {
+// A stream is given as a waiting frame is. At instant 0 its deadline is the time left.
+fn is_sent_first<R: Rule>(rt: &impl Abort, rule: &R, pair: [Waiting; 2]) -> Result<bool, Fail> {
     let mut table = Table::empty();
     for (slot, period, deadline, history) in pair {
         let stream = Stream::new(Numbers {
             period,
-            deadline,
+            deadline: u64::from(deadline),
             service: 1,
             m: 2,
             k: 4,
             history,
         })?;
-        table = table.with(slot, stream)?;
+        table = table.with(u64::from(slot), stream)?;
     }
     let mut machine = Machine::start(&table);
     assert_eq!(rt; machine.unit(rule, false)?.met, 1);
     let [(slot, _, _, history), _] = pair;
-    match machine.history(slot) {
+    match machine.history(u64::from(slot)) {
         Some(stands) => Ok(u64::from(stands.bits()) != history),
         None => Err(Fail::new("no such stream")),
     }
@@ -38,7 +36,7 @@ fn is_sent_first<R: Rule>(rt: &impl Abort, rule: &R, pair: [Placed; 2]) -> Resul
 fn over_bottoms<K: Key + Copy>(
     rt: &impl Abort,
     key: K,
-    pair: [Placed; 2],
+    pair: [Waiting; 2],
 ) -> Result<[bool; 2], Fail> {
     Ok([
         is_sent_first(rt, &Layer::over(key, Lower), pair)?,
@@ -46,7 +44,7 @@ fn over_bottoms<K: Key + Copy>(
     ])
 }
 
-fn by_layers(rt: &impl Abort, pair: [Placed; 2]) -> Result<[[bool; 2]; 5], Fail> {
+fn by_layers(rt: &impl Abort, pair: [Waiting; 2]) -> Result<[[bool; 2]; 5], Fail> {
     Ok([
         over_bottoms(rt, Distance, pair)?,
         over_bottoms(rt, Restoring, pair)?,
@@ -56,7 +54,7 @@ fn by_layers(rt: &impl Abort, pair: [Placed; 2]) -> Result<[[bool; 2]; 5], Fail>
     ])
 }
 
-fn by_named(rt: &impl Abort, pair: [Placed; 2]) -> Result<[bool; 6], Fail> {
+fn by_named(rt: &impl Abort, pair: [Waiting; 2]) -> Result<[bool; 6], Fail> {
     Ok([
         is_sent_first(rt, &Del::default(), pair)?,
         is_sent_first(rt, &Deh::default(), pair)?,
@@ -67,43 +65,10 @@ fn by_named(rt: &impl Abort, pair: [Placed; 2]) -> Result<[bool; 6], Fail> {
     ])
 }
 
-// Two streams; which of them the keys D, R, E, M and K send first; and whether the first is sent before the second
-// by Del, Deh, Dml, Drel, El and Ml.
+// The streams of the pairs of frames, the times left as deadlines: the stream is sent first whose frame goes before the other.
 #[test]
 fn pairs(rt: HostRuntime) -> Result<(), Fail> {
-    let rows = [
-        (
-            [(0, 8, 5, OLDEST), (1, 8, 5, OLDEST)],
-            [TIE, TIE, TIE, TIE, SECOND],
-            [true, false, true, true, true, true],
-        ),
-        (
-            [(4, 9, 5, OLDEST), (0, 8, 4, LATEST)],
-            [FIRST, TIE_BACK, SECOND, SECOND, TIE_BACK],
-            [true, true, true, true, false, false],
-        ),
-        (
-            [(2, 9, 4, OLDEST), (1, 8, 5, OLDEST)],
-            [TIE_BACK, TIE_BACK, FIRST, SECOND, SECOND],
-            [true, true, false, true, true, false],
-        ),
-        (
-            [(7, 8, 4, NONE), (2, 8, 5, ONE)],
-            [TIE_BACK, SECOND, FIRST, TIE_BACK, FIRST],
-            [true, true, false, false, true, false],
-        ),
-        (
-            [(3, 8, 5, NONE), (4, 8, 5, ONE)],
-            [TIE, SECOND, TIE, TIE, FIRST],
-            [true, false, true, false, true, true],
-        ),
-        (
-            [(5, 4096, 4096, LATEST), (6, 8, 2, NONE)],
-            [SECOND, FIRST, SECOND, SECOND, TIE],
-            [false, false, false, false, false, false],
-        ),
-    ];
-    for (pair, layers, named) in rows {
+    for (pair, layers, named) in pairs_in_order(2) {
         assert_eq!(rt; by_layers(&rt, pair)?, layers);
         assert_eq!(rt; by_named(&rt, pair)?, named);
     }

@@ -10,9 +10,10 @@ use crate::rule::Rule;
 use std::test::Fail;
 use streams::{Numbers, Stream};
 
-// The waiting frame of a stream that needs 2 of 4, of service time 1 and due within its period,
-// by its slot, period, time left and history.
-fn ready((slot, period, left, history): (u8, u64, u16, u64)) -> Result<ReadyFrame, Fail> {
+// A waiting frame of a stream that needs 2 of 4, of service time 1 and due within its period, by its slot, period, time left and history.
+pub(crate) type Waiting = (u8, u64, u16, u64);
+
+fn ready((slot, period, left, history): Waiting) -> Result<ReadyFrame, Fail> {
     let stream = Stream::new(Numbers {
         period,
         deadline: period,
@@ -57,27 +58,28 @@ fn by_named([a, b]: [ReadyFrame; 2]) -> [bool; 6] {
 }
 
 // Distance 1 and 3, and two of distance 0 with restoring distance 2 and 1.
-pub(crate) const OLDEST: u64 = 0b1100;
+const OLDEST: u64 = 0b1100;
 
-pub(crate) const LATEST: u64 = 0b0011;
+const LATEST: u64 = 0b0011;
 
-pub(crate) const NONE: u64 = 0b0000;
+const NONE: u64 = 0b0000;
 
-pub(crate) const ONE: u64 = 0b0001;
+const ONE: u64 = 0b0001;
 
-pub(crate) const FIRST: [bool; 2] = [true, true];
+const FIRST: [bool; 2] = [true, true];
 
-pub(crate) const SECOND: [bool; 2] = [false, false];
+const SECOND: [bool; 2] = [false, false];
 
-pub(crate) const TIE: [bool; 2] = [true, false];
+const TIE: [bool; 2] = [true, false];
 
-pub(crate) const TIE_BACK: [bool; 2] = [false, true];
+const TIE_BACK: [bool; 2] = [false, true];
 
-// Two frames; which of them the keys D, R, E, M and K put first; and whether the first goes before the second
-// by Del, Deh, Dml, Drel, El and Ml.
-#[test]
-fn pairs(rt: HostRuntime) -> Result<(), Fail> {
-    let rows = [
+// Two waiting frames, each by its slot, period, time left and history; which of them the keys D, R, E, M and K put first; and whether
+// the first goes before the second by Del, Deh, Dml, Drel, El and Ml. The last frame of all has the least time left.
+pub(crate) type Pair = ([Waiting; 2], [[bool; 2]; 5], [bool; 6]);
+
+pub(crate) fn pairs_in_order(least: u16) -> [Pair; 6] {
+    [
         (
             [(0, 8, 5, OLDEST), (1, 8, 5, OLDEST)],
             [TIE, TIE, TIE, TIE, SECOND],
@@ -104,12 +106,16 @@ fn pairs(rt: HostRuntime) -> Result<(), Fail> {
             [true, false, true, false, true, true],
         ),
         (
-            [(5, 4096, 4096, LATEST), (6, 8, 1, NONE)],
+            [(5, 4096, 4096, LATEST), (6, 8, least, NONE)],
             [SECOND, FIRST, SECOND, SECOND, TIE],
             [false, false, false, false, false, false],
         ),
-    ];
-    for ([a, b], layers, named) in rows {
+    ]
+}
+
+#[test]
+fn pairs(rt: HostRuntime) -> Result<(), Fail> {
+    for ([a, b], layers, named) in pairs_in_order(1) {
         let pair = [ready(a)?, ready(b)?];
         assert_eq!(rt; by_layers(pair), layers);
         assert_eq!(rt; by_named(pair), named);

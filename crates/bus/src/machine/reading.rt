@@ -26,10 +26,11 @@ impl Machine {
     pub fn history(&self, slot: u64) -> Option<History>
         ensures { option_map firm_of result ≡ option_map history_of (slice_index_or (state_of self.now).rows slot None) }
     {
-        if slot < 8 {
-            self.state.rows[slot as usize].map(|row| row.history())
-        } else {
-            None
-        }
+        self.state
+            .rows
+            .get(slot as usize)
+            .copied()
+            .flatten()
+            .map(|row| row.history())
     }
 }

@@ -3,7 +3,6 @@ ghost use Rattle.bus.specs.Endings.{AtMost};
 ghost use Rattle.bus.specs.Machines.{tally_of};
 ghost use Rattle.bus.specs.Rows.{row_of, rows_of};
 ghost use Rattle.bus.specs.States.{standing};
-ghost use Rattle.bus.specs.Tallies.{together};
 ghost use Rattle.bus.specs.Waiting.{waits_from};
 ghost use Rattle.model.specs.Machine.{drop, drops, release};
 ghost use Rattle.model.specs.Tally.{tally};
@@ -35,17 +34,19 @@ impl State {
         }
     }
 
-    // Step 6: each waiting frame that can no longer be sent in time is dropped and has missed, which is told.
-    pub(crate) fn drop(&mut self, told: &mut Tally)
-        requires { AtMost 1 (tally_of told.old) }
+    // Step 6: each waiting frame that can no longer be sent in time is dropped and has missed. What is told of these.
+    pub(crate) fn drop(&mut self) -> Tally
         ensures state { standing self.new ≡ drop (standing self.old) }
-        ensures told { tally_of told.new ≡ together (tally_of told.old) (tally (drops self.old.now 0 (rows_of self.old.rows))) }
+        ensures told { tally_of result ≡ tally (drops self.old.now 0 (rows_of self.old.rows)) }
+        ensures few { AtMost 8 (tally_of result) }
     {
         let instant = self.now;
+        let mut told = Tally::nothing();
         for (i, slot) in self.rows.iter_mut().enumerate() {
             if let Some(row) = slot {
                 told.add(row.drop(i as u8, instant));
             }
         }
+        told
     }
 }

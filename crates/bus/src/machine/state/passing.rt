@@ -22,7 +22,6 @@ impl State {
         self.tick();
         let mut told = Tally::nothing();
         told.add(self.leave());
-        self.drop(&mut told);
-        told
+        told.together(self.drop())
     }
 }

@@ -1,4 +1,4 @@
-use Rattle.std.proofs.Common.{◌≡◌, ◌<◌, true, replicate, refl, ◌∙◌, arith}
+use Rattle.std.proofs.Common.{◌≡◌, ◌<◌, true, replicate, ◌∙◌, arith}
 use Rattle.model.specs.Bench.{last_instant}
 use Rattle.model.specs.Schedule.{run}
 use Rattle.bus.specs.Machines.{state_of}
@@ -18,14 +18,12 @@ invariant_of-self g c =
       same = kept_run before _ (state_in b) _ (replicate 1 true) b.machine.sound e b.same;
     }
 
-pub returns : goal.returns
-returns g c =
+pub returns-clause-answer : goal.returns-clause-answer
+returns-clause-answer g c =
     let b = c.args.self.now in
-    let before = g.R.Rule.before b.rule in
-    let early : (state_in b).now < last_instant = omega arith in
-    record {
-      answer = c.unit.ensures.answer ∙ once_answered before (state_in b) early;
-      state = c.unit.ensures.state ∙ once_led before (state_in b) early;
-      table = refl {a = b.table};
-      rule = refl {a = b.rule};
-    }
+    c.unit.ensures.answer ∙ once_answered (g.R.Rule.before b.rule) (state_in b) (omega arith)
+
+pub returns-clause-state : goal.returns-clause-state
+returns-clause-state g c =
+    let b = c.args.self.now in
+    c.unit.ensures.state ∙ once_led (g.R.Rule.before b.rule) (state_in b) (omega arith)

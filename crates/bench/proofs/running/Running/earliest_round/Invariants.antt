@@ -1,4 +1,3 @@
-use Rattle.std.proofs.Common.{◌-◌}
 use Rattle.bus.specs.Machines.{state_of}
 use Rattle.promise.proofs.Search.{Closing}
 use Rattle.bench.proofs.running.Running.earliest_round.Given as goal

@@ -1,4 +1,4 @@
-use Rattle.std.proofs.Common.{◌≡◌, ◌-◌, ◌%◌, ap, ◌∙◌, subst, arith}
+use Rattle.std.proofs.Common.{◌≡◌, ◌-◌, ◌%◌, subst, arith}
 use Rattle.laws.proofs.Held.{held_sound}
 use Rattle.model.specs.Forecast.{units_to}
 use Rattle.model.specs.Tables.{hyper_period}
@@ -6,7 +6,7 @@ use Rattle.promise.specs.Answers.{Walked}
 use Rattle.streams.specs.Tables.{table_of}
 use Rattle.bus.specs.Machines.{state_of}
 use Rattle.bench.specs.Stands.{state_in}
-use Rattle.bench.proofs.Foretelling.{some_period, units_are_first, first_soon, first_searchable}
+use Rattle.bench.proofs.Foretelling.{some_period, units_are_first, first_searchable}
 use Rattle.bench.proofs.running.Running.first_boundary.Goals as goal
 
 pub units_to_boundary-units-requires : goal.units_to_boundary-units-requires
@@ -14,16 +14,6 @@ units_to_boundary-units-requires g c =
     let b = c.args.self.now in
     let s = state_in b in
     omega (arith, c.period.ensures, some_period s (held_sound s b.machine.sound) (table_of b.table) b.same)
-
-pub walk-requires : goal.walk-requires
-walk-requires g c =
-    let b = c.args.self.now in
-    let s = state_in b in
-    let h = held_sound s b.machine.sound in
-    let t = table_of b.table in
-    let n = c.units_to_boundary-units.result in
-    let e : n ≡ (hyper_period t - s.now % hyper_period t) % hyper_period t = cc in
-    first_soon s h t b.same b.table.short b.table.few b.early n (units_are_first s h t b.same n e)
 
 pub returns : goal.returns
 returns g c =

@@ -1,6 +1,5 @@
-use Rattle.std.proofs.Common.{arith}
 use Rattle.std.proofs.lemmas.Result.{err_from_is_err_and}
-use Rattle.bench.proofs.Searching.{turn_first, turn_soon, turn_room, turn_fails, turn_found, turn_on, turn_anew}
+use Rattle.bench.proofs.Searching.{turn_first, turn_room, turn_fails, turn_found, turn_on, turn_anew}
 use Rattle.bench.proofs.running.Running.round.Goals as goal
 use Rattle.bench.proofs.running.Running.round.Goals.{then-to-from, else-to-from}
 
@@ -19,16 +18,10 @@ returns-in_err-walk g c =
 pub returns-then-agree : goal.returns-then-agree
 returns-then-agree g c = turn_found _ c.args.first _ c.requires _ c.period-period.ensures _ _ _ _ c.loop-to.invariant _ c.in_ok-walk.ensures c.if-agree.ensures
 
-pub overflow_mul-from : goal.overflow_mul-from
-overflow_mul-from g c = omega (arith, c.loop-to.invariant.1, c.loop-to.invariant.2.near, c.requires.few)
-
 pub loop-to-preserved : goal.loop-to-preserved
 loop-to-preserved g c = elim c.if-to-from.branch [
   | then-to-from w ↦ rw (w.from-is, w.kept-is) (
-        turn_anew _ c.args.first _ c.requires _ c.period-period.ensures _ _ _ _ c.loop-to.invariant _ c.in_ok-walk.ensures c.if-agree.ensures w.if-to-from.true)
+      turn_anew _ c.args.first _ c.requires _ c.period-period.ensures _ _ _ _ c.loop-to.invariant _ c.in_ok-walk.ensures c.if-agree.ensures w.if-to-from.true)
   | else-to-from w ↦ rw (w.from-is, w.kept-is) (
-        turn_on _ c.args.first _ c.requires _ c.period-period.ensures _ _ _ _ c.loop-to.invariant _ c.in_ok-walk.ensures c.if-agree.ensures w.if-to-from.false)
+      turn_on _ c.args.first _ c.requires _ c.period-period.ensures _ _ _ _ c.loop-to.invariant _ c.in_ok-walk.ensures c.if-agree.ensures w.if-to-from.false)
 ]
-
-pub unreachable-requires : goal.unreachable-requires
-unreachable-requires g c = absurd (omega (arith, turn_soon _ c.args.first _ c.requires _ c.period-period.ensures _ _ _ _ c.loop-to.invariant))

@@ -1,4 +1,4 @@
-use Rattle.std.proofs.Common.{◌≡◌, sym, ap, ◌∙◌, subst, arith}
+use Rattle.std.proofs.Common.{sym, ap, ◌∙◌, subst, arith}
 use Rattle.std.specs.Option.{option_map}
 use Rattle.bus.specs.Machines.{failure_note, state_of}
 use Rattle.promise.specs.Answers.{Walked}
@@ -23,9 +23,3 @@ pub returns-in-Some : goal.returns-in-Some
 returns-in-Some g c =
     walk_fails _ _ c.loop.counter (state_of c.loop.bus) c.loop.invariant _
     (sym (told_first _ _ c.quiet_unit.ensures.told) ∙ ap (option_map failure_note) c.in-Some.is)
-
-pub returns : goal.returns
-returns g c =
-    let all : c.loop.counter ≡ c.args.units = omega arith in
-    let before = g.R.Rule.before c.args.self.now.rule in
-    subst (λ n. Walked before (state_of c.args.bus.now) n (state_of c.loop.bus)) all c.loop.invariant

@@ -1,9 +1,8 @@
-use Rattle.std.proofs.Common.{◌≡◌, ℕ, ◌<◌, ◌==◌, Bool, true, get_or, None, refl, sym, ◌∙◌, rules}
+use Rattle.std.proofs.Common.{refl, ◌∙◌, rules}
 use Rattle.std.proofs.lemmas.Iterator.Search.{all_from_yields_List}
 use Rattle.std.proofs.lemmas.Iterator.{YieldsList-from_range}
 use Rattle.std.proofs.lemmas.List.{length-map}
 use Rattle.bus.specs.Machines.{state_of}
-use Rattle.model.specs.Forecast.{histories_of}
 use Rattle.bench.proofs.Agreeing.{agrees, agree_if_all}
 use Rattle.bench.proofs.search.agreeing.agree.Goals as goal
 

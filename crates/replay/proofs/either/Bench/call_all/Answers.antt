@@ -9,14 +9,11 @@ loop-call-preserved g c = (
   c.in_ok-bench.ensures.rule ∙ c.loop-call.invariant.1,
 )
 
-pub returns-in_err-bench : goal.returns-in_err-bench
-returns-in_err-bench g c =
+pub returns-in_err-bench-clause-bench : goal.returns-in_err-bench-clause-bench
+returns-in_err-bench-clause-bench g c =
     rw c.from_residual.ensures
-    (record {
-      bench = left_none _ _ _ _ _ (left_more _ _ _ _ c.loop-call.call-index _ _ _ _ c.loop-call-test.true c.loop-call.invariant.0 (ap g.R.Rule.before c.loop-call.invariant.1)
-          c.in_err-bench.ensures.bench);
-      rule = tt;
-    })
+    (left_none _ _ _ _ _ (left_more _ _ _ _ c.loop-call.call-index _ _ _ _ c.loop-call-test.true c.loop-call.invariant.0 (ap g.R.Rule.before c.loop-call.invariant.1)
+    c.in_err-bench.ensures.bench))
 
-pub returns : goal.returns
-returns g c = record { bench = left_all _ _ _ _ c.loop-call.call-index _ c.loop-call-test.false c.loop-call.invariant.0; rule = c.loop-call.invariant.1 }
+pub returns-clause-bench : goal.returns-clause-bench
+returns-clause-bench g c = left_all _ _ _ _ c.loop-call.call-index _ c.loop-call-test.false c.loop-call.invariant.0

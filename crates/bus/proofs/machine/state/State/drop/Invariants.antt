@@ -8,4 +8,4 @@ use Rattle.bus.proofs.machine.state.State.drop.Given as goal
 abbrev pub invariant-loop-i : goal.invariant-loop-i
 invariant-loop-i l =
     Done (drop_row l.instant) l.initial.slot-items l.slot-items l.i
-    × Told l.instant (rows_of l.initial.slot-items) (tally_of l.initial.told) (tally_of l.told) l.i
+    × Told l.instant (rows_of l.initial.slot-items) (tally_of l.told) l.i

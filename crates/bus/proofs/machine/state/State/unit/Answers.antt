@@ -17,8 +17,11 @@ tick-requires g c =
 pub add-requires : goal.add-requires
 add-requires g c = none_few 9 (tally_of c.nothing-told.result) c.nothing-told.ensures
 
-pub drop-requires : goal.drop-requires
-drop-requires g c = one_few (tally_of c.add.new.self) _ _ c.nothing-told.ensures c.add.ensures
+pub together-requires : goal.together-requires
+together-requires g c =
+    let one = one_few (tally_of c.add.new.self) _ _ c.nothing-told.ensures c.add.ensures in
+    let eight = c.drop.ensures.few in
+    record { met = omega (arith, one, eight); missed = omega (arith, one, eight); failures = omega (arith, one, eight) }
 
 pub returns : goal.returns
 returns g c =
@@ -35,5 +38,5 @@ returns g c =
       state = passed_unit _ _ _ _ _ _ _ _ _ p;
       told = passed_tally _ _ _ _ _ _ _ _ _ p _ _
           (c.add.ensures ∙ ap (λ n. together n (told_of c.leave.result)) c.nothing-told.ensures ∙ nothing_and _ ∙ c.leave.ensures.told)
-          c.drop.ensures.told;
+          (c.together.ensures ∙ ap (together (tally_of c.add.new.self)) c.drop.ensures.told);
     }
