@@ -1,5 +1,6 @@
 -- What is printed for an input: the forecast of its table, started, under its ranking rule, or its first fault. Assumes nothing.
 use Rattle.std.specs.Prelude.{◌≡◌, ℕ, Bool, List, [], ◌∷◌, ◌++◌, Ok, Err, Result}
+use Rattle.refusal.specs.Tests.{and_then, on_ok}
 use Rattle.refusal.specs.declared.Fault.{Fault}
 use Rattle.model.specs.Figures.{figures}
 use Rattle.model.specs.Bench.Call.{load, start}
@@ -38,6 +39,10 @@ Told before (Err f) bytes = bytes ≡ refused f
 abbrev pub Answered : Result (Ranking × List ℕ) Fault → List ℕ → Type 0
 Answered (Ok q) bytes = Told (meaning q.0) (judged q.1) bytes
 Answered (Err f) bytes = bytes ≡ refused f
+
+-- the ranking rule and the started table that an input asks about, or its first fault
+abbrev pub stood : List ℕ → Result (Ranking × State) Fault
+stood input = and_then (asked input) (λ q. on_ok (λ t. (q.0, started t)) (judged q.1))
 
 -- the bytes are those that are printed for an input
 abbrev pub Prints : List ℕ → List ℕ → Type 0

@@ -2,8 +2,8 @@
 ghost use Rattle.forecast_report.specs.Answers.{Forecasts, Prints};
 ghost use Rattle.std.specs.Prelude.{IfOk, string_bytes};
 
-use crate::answering::answer;
-use question::{ask, refused_line};
+use crate::answering::{forecast_lines, started};
+use question::refused_line;
 use std::alloc::{AllocError, Global};
 
 // The bytes to print for an input, or `AllocError` where there is no memory for them.
@@ -11,8 +11,8 @@ pub fn respond(heap: Global, input: &[u8]) -> Result<String, AllocError>
     ensures prints { IfOk result (λ s. Prints input.now (string_bytes s)) }
     ensures forecasts { IfOk result (λ s. Forecasts input.now (string_bytes s)) }
 {
-    match ask(input) {
-        Ok(question) => answer(heap, question),
+    match started(input) {
+        Ok(bench) => forecast_lines(heap, &bench),
         Err(fault) => refused_line(heap, fault),
     }
 }

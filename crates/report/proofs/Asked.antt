@@ -1,5 +1,5 @@
 -- An input with a known word. Assumes nothing.
-use Rattle.std.proofs.Common.{◌≡◌, ℕ, List, ◌∷◌, ◌++◌, Ok, ap, ◌∙◌}
+use Rattle.std.proofs.Common.{◌≡◌, ℕ, List, ap, ◌∙◌}
 use Rattle.refusal.specs.Tests.{and_then}
 use Rattle.model.specs.Layout.{judged}
 use Rattle.tablefile.proofs.Spelled.{spelled_exactly}

@@ -10,6 +10,7 @@ use std::io::BufReader;
 fn main(rt: HostRuntime) -> anyhow::Result<()> {
     let heap = rt.alloc();
     let given = BufReader::new(heap, rt.stdin())?;
+    // A closure and not `respond` itself: a proof cannot cite a function of another crate as a value.
     answer_all(heap, given, &mut rt.stdout(), |heap, input| {
         respond(heap, input)
     })

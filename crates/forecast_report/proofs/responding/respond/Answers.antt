@@ -6,7 +6,7 @@ use Rattle.forecast_report.proofs.responding.respond.Goals as goal
 
 pub returns-in-Ok-clause-forecasts : goal.returns-in-Ok-clause-forecasts
 returns-in-Ok-clause-forecasts c =
-    IfOk-weaker c.answer.result (λ s. Prints c.args.input.now (string_bytes s)) _ (λ s. forecasts c.args.input.now (string_bytes s)) (search rules)
+    IfOk-weaker c.forecast_lines.result (λ s. Prints c.args.input.now (string_bytes s)) _ (λ s. forecasts c.args.input.now (string_bytes s)) (search rules)
 
 pub returns-in-Err-clause-forecasts : goal.returns-in-Err-clause-forecasts
 returns-in-Err-clause-forecasts c =

@@ -1,4 +1,4 @@
-use Rattle.std.proofs.Common.{◌≡◌, ℕ, ◌<◌, length, string_bytes, Ok, IfOk, IfSome, subst, refl, rules}
+use Rattle.std.proofs.Common.{◌≡◌, ◌<◌, length, string_bytes, IfOk, IfSome, subst, refl, rules}
 use Rattle.std.specs.Io.BufRead.{first_line, DropsThrough}
 use Rattle.std.specs.Io.Iter.{lines_known_bytes}
 use Rattle.inputs.specs.Answers.{Gives}
