@@ -1,76 +1,45 @@
-use crate::bottoms::{Higher, Lower};
-use crate::keys::{Distance, Period, Restoring, SlotRank, TimeLeft};
-use crate::layers::{Key, Layer};
-use crate::named::{Deh, Del, Dml, Drel, El, Ml};
-use crate::tests::{Waiting, pairs_in_order};
+use crate::named::Del;
+use crate::tests::{Ask, Waiting, by_layers, by_named, pairs_in_order};
 use crate::{Failure, Machine, Rule, first_failure};
 use std::process::Abort;
 use std::test::Fail;
 use streams::{Numbers, Stream, Table};
 
-// Whether the first of two streams is sent before the second in a quiet unit from the start: then an outcome has entered its history.
-// A stream is given as a waiting frame is. At instant 0 its deadline is the time left.
-fn is_sent_first<R: Rule>(rt: &impl Abort, rule: &R, pair: [Waiting; 2]) -> Result<bool, Fail> {
-    let mut table = Table::empty();
-    for (slot, period, deadline, history) in pair {
-        let stream = Stream::new(Numbers {
-            period,
-            deadline: u64::from(deadline),
-            service: 1,
-            m: 2,
-            k: 4,
-            history,
-        })?;
-        table = table.with(u64::from(slot), stream)?;
+// The machine is asked: whether the first of two streams is sent before the second in a quiet unit from the start, since then an outcome
+// has entered its history. A stream is given as a waiting frame is. At instant 0 its deadline is the time left.
+#[derive(Clone, Copy)]
+struct OfTheMachine<'a, T: Abort>(&'a T);
+
+impl<'a, T: Abort> Ask for OfTheMachine<'a, T> {
+    fn is_first<R: Rule>(&self, rule: &R, pair: [Waiting; 2]) -> Result<bool, Fail> {
+        let mut table = Table::empty();
+        for (slot, period, deadline, history) in pair {
+            let stream = Stream::new(Numbers {
+                period,
+                deadline: u64::from(deadline),
+                service: 1,
+                m: 2,
+                k: 4,
+                history,
+            })?;
+            table = table.with(u64::from(slot), stream)?;
+        }
+        let mut machine = Machine::start(&table);
+        assert_eq!(self.0; machine.unit(rule, false)?.met, 1);
+        let [(slot, _, _, history), _] = pair;
+        match machine.history(u64::from(slot)) {
+            Some(stands) => Ok(u64::from(stands.bits()) != history),
+            None => Err(Fail::new("no such stream")),
+        }
     }
-    let mut machine = Machine::start(&table);
-    assert_eq!(rt; machine.unit(rule, false)?.met, 1);
-    let [(slot, _, _, history), _] = pair;
-    match machine.history(u64::from(slot)) {
-        Some(stands) => Ok(u64::from(stands.bits()) != history),
-        None => Err(Fail::new("no such stream")),
-    }
-}
-
-// The same by a key over each bottom: these differ on a tie.
-fn over_bottoms<K: Key + Copy>(
-    rt: &impl Abort,
-    key: K,
-    pair: [Waiting; 2],
-) -> Result<[bool; 2], Fail> {
-    Ok([
-        is_sent_first(rt, &Layer::over(key, Lower), pair)?,
-        is_sent_first(rt, &Layer::over(key, Higher::default()), pair)?,
-    ])
-}
-
-fn by_layers(rt: &impl Abort, pair: [Waiting; 2]) -> Result<[[bool; 2]; 5], Fail> {
-    Ok([
-        over_bottoms(rt, Distance, pair)?,
-        over_bottoms(rt, Restoring, pair)?,
-        over_bottoms(rt, TimeLeft, pair)?,
-        over_bottoms(rt, Period, pair)?,
-        over_bottoms(rt, SlotRank::new([9, 0, 255, 0, 9, 1, 1, 2]), pair)?,
-    ])
-}
-
-fn by_named(rt: &impl Abort, pair: [Waiting; 2]) -> Result<[bool; 6], Fail> {
-    Ok([
-        is_sent_first(rt, &Del::default(), pair)?,
-        is_sent_first(rt, &Deh::default(), pair)?,
-        is_sent_first(rt, &Dml::default(), pair)?,
-        is_sent_first(rt, &Drel::default(), pair)?,
-        is_sent_first(rt, &El::default(), pair)?,
-        is_sent_first(rt, &Ml::default(), pair)?,
-    ])
 }
 
 // The streams of the pairs of frames, the times left as deadlines: the stream is sent first whose frame goes before the other.
 #[test]
 fn pairs(rt: HostRuntime) -> Result<(), Fail> {
     for (pair, layers, named) in pairs_in_order(2) {
-        assert_eq!(rt; by_layers(&rt, pair)?, layers);
-        assert_eq!(rt; by_named(&rt, pair)?, named);
+        assert_eq!(rt; by_layers(&OfTheMachine(&rt), pair)?, layers);
+        assert_eq!(rt; by_named(&OfTheMachine(&rt), pair)?, named);
     }
     Ok(())
 }

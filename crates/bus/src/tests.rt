@@ -28,33 +28,52 @@ fn ready((slot, period, left, history): Waiting) -> Result<ReadyFrame, Fail> {
     Ok(ReadyFrame::waiting(slot, &stream, stream.history(), left))
 }
 
-// Whether the first of two frames goes before the second, by a key over each bottom: these differ on a tie.
-fn over_bottoms<K: Key + Copy>(key: K, [a, b]: [ReadyFrame; 2]) -> [bool; 2] {
-    [
-        Layer::over(key, Lower).goes_before(&a, &b),
-        Layer::over(key, Higher::default()).goes_before(&a, &b),
-    ]
+// A way to ask whether the first of two waiting frames goes before the second under a rule.
+pub(crate) trait Ask {
+    fn is_first<R: Rule>(&self, rule: &R, pair: [Waiting; 2]) -> Result<bool, Fail>;
 }
 
-fn by_layers(pair: [ReadyFrame; 2]) -> [[bool; 2]; 5] {
-    [
-        over_bottoms(Distance, pair),
-        over_bottoms(Restoring, pair),
-        over_bottoms(TimeLeft, pair),
-        over_bottoms(Period, pair),
-        over_bottoms(SlotRank::new([9, 0, 255, 0, 9, 1, 1, 2]), pair),
-    ]
+// The rule itself is asked.
+#[derive(Clone, Copy)]
+struct OfTheRule;
+
+impl Ask for OfTheRule {
+    fn is_first<R: Rule>(&self, rule: &R, [a, b]: [Waiting; 2]) -> Result<bool, Fail> {
+        Ok(rule.goes_before(&ready(a)?, &ready(b)?))
+    }
 }
 
-fn by_named([a, b]: [ReadyFrame; 2]) -> [bool; 6] {
-    [
-        Del::default().goes_before(&a, &b),
-        Deh::default().goes_before(&a, &b),
-        Dml::default().goes_before(&a, &b),
-        Drel::default().goes_before(&a, &b),
-        El::default().goes_before(&a, &b),
-        Ml::default().goes_before(&a, &b),
-    ]
+// The same by a key over each bottom: these differ on a tie.
+fn over_bottoms<A: Ask, K: Key + Copy>(
+    ask: &A,
+    key: K,
+    pair: [Waiting; 2],
+) -> Result<[bool; 2], Fail> {
+    Ok([
+        ask.is_first(&Layer::over(key, Lower), pair)?,
+        ask.is_first(&Layer::over(key, Higher::default()), pair)?,
+    ])
+}
+
+pub(crate) fn by_layers<A: Ask>(ask: &A, pair: [Waiting; 2]) -> Result<[[bool; 2]; 5], Fail> {
+    Ok([
+        over_bottoms(ask, Distance, pair)?,
+        over_bottoms(ask, Restoring, pair)?,
+        over_bottoms(ask, TimeLeft, pair)?,
+        over_bottoms(ask, Period, pair)?,
+        over_bottoms(ask, SlotRank::new([9, 0, 255, 0, 9, 1, 1, 2]), pair)?,
+    ])
+}
+
+pub(crate) fn by_named<A: Ask>(ask: &A, pair: [Waiting; 2]) -> Result<[bool; 6], Fail> {
+    Ok([
+        ask.is_first(&Del::default(), pair)?,
+        ask.is_first(&Deh::default(), pair)?,
+        ask.is_first(&Dml::default(), pair)?,
+        ask.is_first(&Drel::default(), pair)?,
+        ask.is_first(&El::default(), pair)?,
+        ask.is_first(&Ml::default(), pair)?,
+    ])
 }
 
 // Distance 1 and 3, and two of distance 0 with restoring distance 2 and 1.
@@ -115,10 +134,9 @@ pub(crate) fn pairs_in_order(least: u16) -> [Pair; 6] {
 
 #[test]
 fn pairs(rt: HostRuntime) -> Result<(), Fail> {
-    for ([a, b], layers, named) in pairs_in_order(1) {
-        let pair = [ready(a)?, ready(b)?];
-        assert_eq!(rt; by_layers(pair), layers);
-        assert_eq!(rt; by_named(pair), named);
+    for (pair, layers, named) in pairs_in_order(1) {
+        assert_eq!(rt; by_layers(&OfTheRule, pair)?, layers);
+        assert_eq!(rt; by_named(&OfTheRule, pair)?, named);
     }
     Ok(())
 }

@@ -4,7 +4,7 @@ use Rattle.bus.specs.Machines.{tally_of}
 use Rattle.bus.specs.States.{standing}
 use Rattle.bus.specs.Tallies.{together}
 use Rattle.bus.proofs.Passing.{sendable, Passed, marked_now, passed_unit, passed_tally}
-use Rattle.bus.proofs.Telling.{nothing_and, none_few, one_few}
+use Rattle.bus.proofs.Telling.{nothing_and, none_few, one_few, capped_few}
 use Rattle.bus.proofs.machine.state.State.unit.Goals as goal
 
 pub start-requires : goal.start-requires
@@ -17,14 +17,10 @@ tick-requires g c =
 pub add-requires : goal.add-requires
 add-requires g c = none_few 9 (tally_of c.nothing-told.result) c.nothing-told.ensures
 
-pub together-requires : goal.together-requires
-together-requires g c =
-    let one = one_few (tally_of c.add.new.self) _ _ c.nothing-told.ensures c.add.ensures in
-    let eight = c.drop.ensures.few in
-    record { met = omega (arith, one, eight); missed = omega (arith, one, eight); failures = omega (arith, one, eight) }
-
 pub returns : goal.returns
 returns g c =
+    let one = one_few (tally_of c.add.new.self) _ _ c.nothing-told.ensures c.add.ensures in
+    let eight = c.drop.ensures.few in
     let p : Passed (g.R.Rule.before c.args.rule.now) c.args.noisy (standing c.args.self.now) _ _ _ _ _ _ =
     record {
       released = c.release.ensures;
@@ -38,5 +34,5 @@ returns g c =
       state = passed_unit _ _ _ _ _ _ _ _ _ p;
       told = passed_tally _ _ _ _ _ _ _ _ _ p _ _
           (c.add.ensures ∙ ap (λ n. together n (told_of c.leave.result)) c.nothing-told.ensures ∙ nothing_and _ ∙ c.leave.ensures.told)
-          (c.together.ensures ∙ ap (together (tally_of c.add.new.self)) c.drop.ensures.told);
+          (c.together.ensures ∙ capped_few _ _ (omega (arith, one, eight), omega (arith, one, eight), omega (arith, one, eight)) ∙ ap (together (tally_of c.add.new.self)) c.drop.ensures.told);
     }
