@@ -1,17 +1,17 @@
 // forecast: judges the stream table on standard input and prints what is to be said of it.
 #![tactic(auto)]
 
+use arrayvec::ArrayVec;
 use report::respond;
 use std::io;
 use std::io::{Read, Write};
 
 // At most this many bytes of standard input are read.
-const MOST: u64 = 4096;
+const MOST: usize = 4096;
 
 fn main(rt: HostRuntime) -> io::Result<()> {
-    let heap = rt.alloc();
-    let mut input = Vec::new(heap);
-    rt.stdin().take(MOST).read_to_end(&mut input)?;
-    let text = respond(heap, &input)?;
+    let mut input = ArrayVec::<u8, MOST>::new();
+    io::copy(&mut rt.stdin().take(MOST as u64), &mut input)?;
+    let text = respond(rt.alloc(), input.as_slice())?;
     rt.stdout().write_all(text.as_bytes())
 }
