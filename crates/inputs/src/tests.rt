@@ -23,7 +23,11 @@ fn no_hexadecimal(rt: HostRuntime) -> Result<(), Fail> {
         let answered = answer_all(heap, line.as_bytes(), &mut told, |heap, _| {
             format!(in heap; "answer")
         });
-        assert!(rt; answered.is_err());
+        let Err(refused) = answered else {
+            return Err(Fail::new("an answer"));
+        };
+        let text = refused.to_string(heap)?;
+        assert_eq!(rt; text.as_str(), "a line is not in hexadecimal");
     }
     Ok(())
 }
