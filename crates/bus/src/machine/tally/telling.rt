@@ -58,8 +58,8 @@ impl Tally {
 fn soonest(a: Option<Failure>, b: Option<Failure>) -> Option<Failure>
     ensures { option_map failure_note result ≡ soonest (option_map failure_note a) (option_map failure_note b) }
 {
-    match (a, b) {
-        (Some(x), Some(y)) if y.is_sooner(&x) => b,
+    match (&a, &b) {
+        (Some(x), Some(y)) if y.is_sooner(x) => b,
         _ => a.or(b),
     }
 }
