@@ -1,5 +1,5 @@
 -- A table of the code is lawful, and so is sound at its start. Assumes nothing.
-use Rattle.std.proofs.Common.{◌≡◌, ℕ, zero, suc, ◌+◌, ◌<◌, ◌≤◌, List, [], ◌∷◌, map, length, get_or, Some, None, Option, sym, ◌∙◌, subst, ⊎_elim, arith}
+use Rattle.std.proofs.Common.{◌≡◌, ℕ, zero, suc, ◌+◌, ◌<◌, ◌≤◌, List, [], ◌∷◌, map, length, get_or, Some, None, Option, sym, ◌∙◌, subst, ⊎_elim, true≢false, arith}
 use Rattle.std.proofs.lemmas.Bool.{cases_eq}
 use Rattle.std.proofs.lemmas.List.{length-map, get_or-map, ext_get_or}
 use Rattle.std.specs.Array.{IsFromFnResult, IsFromFnResultFrom}
@@ -32,8 +32,8 @@ lawful_stream s =
     }
 
 lawful_slots : (slots : List (Option Stream)) (i : ℕ) (s : model-streams.Stream) → get_or (slots_of slots) i None ≡ Some s → LawfulStream s
-lawful_slots [] i s e = absurd (let z : ◌≡◌ {A = ℕ} 0 1 = cc in omega arith)
-lawful_slots (None ∷ slots) zero s e = absurd (let z : ◌≡◌ {A = ℕ} 0 1 = cc in omega arith)
+lawful_slots [] i s e = absurd (true≢false cc)
+lawful_slots (None ∷ slots) zero s e = absurd (true≢false cc)
 lawful_slots (Some x ∷ slots) zero s e = let same : stream_of x ≡ s = cc in subst LawfulStream same (lawful_stream x)
 lawful_slots (o ∷ slots) (suc i) s e = lawful_slots slots i s e
 

@@ -1,5 +1,6 @@
 -- What is told of some outcomes and then of others. Assumes nothing.
 use Rattle.std.proofs.Common.{◌≡◌, ℕ, ◌+◌, ◌<◌, ◌≤◌, Bool, true, false, cond, not, List, [], ◌∷◌, ◌++◌, length, get_or, drop, is_some, Some, None, Option, sym, refl, ap, min, ◌∙◌, subst, add_assoc, add-zero, zero-add, add-one, arith, lit≤}
+use Rattle.std.proofs.lemmas.Bool.{cond_both}
 use Rattle.std.proofs.lemmas.List.{drop_more, drop_all}
 use Rattle.std.specs.Bool.{then_some}
 use Rattle.std.proofs.Math.Nat.{min-eq_left}
@@ -59,8 +60,7 @@ told_one Missed true note r e = ap (λ o. told_of (Some (record { outcome = Miss
 told_one Missed false note r e = ap (λ o. told_of (Some (record { outcome = Missed; failure = o }))) e
 
 one : (t : Bool) (m n : ℕ) → m ≤ 1 → n ≤ 1 → cond t m n ≤ 1
-one true m n p q = p
-one false m n p q = q
+one t m n p q = cond_both t m n (λ x. x ≤ 1) (λ _. p) (λ _. q)
 
 pub told_few : (e : Option Ended) → AtMost 1 (told_of e)
 told_few None = (omega arith, omega arith, omega arith)

@@ -18,7 +18,8 @@ pub struct Failure {
 }
 
 impl Failure {
-    // Whether it comes before another: by instant, then by slot.
+    // Whether it comes before another: by instant, then by slot. Not a derived order, which would go on by the frame:
+    // of two failures of one instant in one slot neither is sooner.
     pub fn is_sooner(&self, other: &Failure) -> bool
         ensures { result ≡ sooner (failure_note self.now) (failure_note other.now) }
     {

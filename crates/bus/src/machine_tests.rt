@@ -1,9 +1,9 @@
 use crate::named::Del;
-use crate::tests::{Ask, Waiting, by_layers, by_named, pairs_in_order};
-use crate::{Failure, Machine, Rule, first_failure};
+use crate::tests::{Ask, Waiting, by_layers, by_named, numbers, pairs_in_order, second_is_lowest};
+use crate::{Machine, Rule};
 use std::process::Abort;
 use std::test::Fail;
-use streams::{Numbers, Stream, Table};
+use streams::{Stream, Table};
 
 // The machine is asked: whether the first of two streams is sent before the second in a quiet unit from the start, since then an outcome
 // has entered its history. A stream is given as a waiting frame is. At instant 0 its deadline is the time left.
@@ -14,23 +14,16 @@ impl<'a, T: Abort> Ask for OfTheMachine<'a, T> {
     fn is_first<R: Rule>(&self, rule: &R, pair: [Waiting; 2]) -> Result<bool, Fail> {
         let mut table = Table::empty();
         for (slot, period, deadline, history) in pair {
-            let stream = Stream::new(Numbers {
-                period,
-                deadline: u64::from(deadline),
-                service: 1,
-                m: 2,
-                k: 4,
-                history,
-            })?;
-            table = table.with(u64::from(slot), stream)?;
+            let stream = numbers([period, u64::from(deadline), 1, 2, 4, history]);
+            table = table.with(u64::from(slot), Stream::new(stream)?)?;
         }
         let mut machine = Machine::start(&table);
         assert_eq!(self.0; machine.unit(rule, false)?.met, 1);
         let [(slot, _, _, history), _] = pair;
-        match machine.history(u64::from(slot)) {
-            Some(stands) => Ok(u64::from(stands.bits()) != history),
-            None => Err(Fail::new("no such stream")),
-        }
+        let stands = machine
+            .history(u64::from(slot))
+            .ok_or_else(|| Fail::new("no such stream"))?;
+        Ok(u64::from(stands.bits()) != history)
     }
 }
 
@@ -48,39 +41,9 @@ fn pairs(rt: HostRuntime) -> Result<(), Fail> {
 #[test]
 fn twelve_units(rt: HostRuntime) -> Result<(), Fail> {
     let table = Table::empty()
-        .with(
-            1,
-            Stream::new(Numbers {
-                period: 4,
-                deadline: 4,
-                service: 3,
-                m: 1,
-                k: 2,
-                history: 0b11,
-            })?,
-        )?
-        .with(
-            4,
-            Stream::new(Numbers {
-                period: 2,
-                deadline: 2,
-                service: 1,
-                m: 1,
-                k: 2,
-                history: 0b11,
-            })?,
-        )?
-        .with(
-            6,
-            Stream::new(Numbers {
-                period: 4,
-                deadline: 3,
-                service: 2,
-                m: 1,
-                k: 3,
-                history: 0b001,
-            })?,
-        )?;
+        .with(1, Stream::new(numbers([4, 4, 3, 1, 2, 0b11]))?)?
+        .with(4, Stream::new(numbers([2, 2, 1, 1, 2, 0b11]))?)?
+        .with(6, Stream::new(numbers([4, 3, 2, 1, 3, 0b001]))?)?;
     let mut machine = Machine::start(&table);
     let told = [
         (1, 0, 0),
@@ -109,25 +72,5 @@ fn twelve_units(rt: HostRuntime) -> Result<(), Fail> {
 
 #[test]
 fn lowest_failure(rt: HostRuntime) {
-    let failures = [
-        Failure {
-            slot: 6,
-            frame: 1,
-            instant: 40,
-        },
-        Failure {
-            slot: 2,
-            frame: 7,
-            instant: 40,
-        },
-        Failure {
-            slot: 4,
-            frame: 3,
-            instant: 40,
-        },
-    ];
-    assert_eq!(rt;
-        [first_failure(&failures), first_failure(&[])],
-        [Some(1), None]
-    );
+    second_is_lowest(&rt, [(6, 1, 40), (2, 7, 40), (4, 3, 40)]);
 }

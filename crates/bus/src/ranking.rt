@@ -62,6 +62,7 @@ impl Ranking {
 }
 
 // A rule that is told when it runs which of them it is. Where the rule is known, its own type asks nothing.
+// An enum with a match, since a bench whose rule is chosen when it runs has one type, whatever the rule.
 impl Rule for Ranking {
     ghost before = { meaning };
 

@@ -7,6 +7,7 @@ mod making;
 mod reading;
 
 // What a rule is shown of a frame that waits: its stream's slot, numbers and history, and the time left until it is due.
+// The numbers and not the `Stream`, which has a history of its own: that of the start.
 #[derive(Clone, Copy)]
 pub struct ReadyFrame {
     slot: u8,

@@ -7,21 +7,27 @@ use crate::named::*;
 use crate::ranking::Ranking;
 use crate::ready::ReadyFrame;
 use crate::rule::Rule;
+use std::process::Abort;
 use std::test::Fail;
 use streams::{Numbers, Stream};
 
 // A waiting frame of a stream that needs 2 of 4, of service time 1 and due within its period, by its slot, period, time left and history.
 pub(crate) type Waiting = (u8, u64, u16, u64);
 
-fn ready((slot, period, left, history): Waiting) -> Result<ReadyFrame, Fail> {
-    let stream = Stream::new(Numbers {
+// The six numbers of a stream in their order.
+pub(crate) fn numbers([period, deadline, service, m, k, history]: [u64; 6]) -> Numbers {
+    Numbers {
         period,
-        deadline: period,
-        service: 1,
-        m: 2,
-        k: 4,
+        deadline,
+        service,
+        m,
+        k,
         history,
-    })?;
+    }
+}
+
+fn ready((slot, period, left, history): Waiting) -> Result<ReadyFrame, Fail> {
+    let stream = Stream::new(numbers([period, period, 1, 2, 4, history]))?;
     if slot > 7 || left < stream.service() || left > stream.deadline() {
         return Err(Fail::new("no waiting frame"));
     }
@@ -141,6 +147,19 @@ fn pairs(rt: HostRuntime) -> Result<(), Fail> {
     Ok(())
 }
 
+// Of three failures, each by its slot, frame and instant, the second is in the lowest slot; of none, none is.
+pub(crate) fn second_is_lowest<T: Abort>(rt: &T, failures: [(u8, u64, u64); 3]) {
+    let failures = failures.map(|(slot, frame, instant)| Failure {
+        slot,
+        frame,
+        instant,
+    });
+    assert_eq!(rt;
+        [first_failure(&failures), first_failure(&[])],
+        [Some(1), None]
+    );
+}
+
 #[test]
 fn firsts(rt: HostRuntime) -> Result<(), Fail> {
     let frames = [
@@ -156,27 +175,7 @@ fn firsts(rt: HostRuntime) -> Result<(), Fail> {
         front_at(&Lower, &[]),
     ];
     assert_eq!(rt; fronts, [Some(3), Some(2), Some(1), None]);
-    let failures = [
-        Failure {
-            slot: 6,
-            frame: 1,
-            instant: 40,
-        },
-        Failure {
-            slot: 2,
-            frame: 7,
-            instant: 44,
-        },
-        Failure {
-            slot: 4,
-            frame: 0,
-            instant: 41,
-        },
-    ];
-    assert_eq!(rt;
-        [first_failure(&failures), first_failure(&[])],
-        [Some(1), None]
-    );
+    second_is_lowest(&rt, [(6, 1, 40), (2, 7, 44), (4, 0, 41)]);
     Ok(())
 }
 

@@ -25,6 +25,7 @@ impl Row {
         ensures row { row_of self.new ≡ drop_row instant (row_of self.old) }
         ensures told { told_of result ≡ tally (dropped instant slot self.old.waits (row_of self.old)) }
     {
+        // An `if` and not `filter` before the `?`: what `filter` says of its closure is taken apart in more lines than these.
         let frame = self.waits?;
         if !self.is_hopeless(frame, instant) {
             return None;

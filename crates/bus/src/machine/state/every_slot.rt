@@ -23,7 +23,8 @@ impl State {
     }
 
     // Step 1: each occupied slot whose period divides the instant releases a frame, which waits.
-    // A loop and not a chain, as in step 6: the rows change in place.
+    // A loop and not a chain, as in step 6: the rows change in place. Not over `iter_mut().flatten()`: its invariant does not see the slots,
+    // and the proof did not close.
     pub(crate) fn release(&mut self)
         ensures { standing self.new ≡ release (standing self.old) }
     {

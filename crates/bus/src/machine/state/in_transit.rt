@@ -43,6 +43,7 @@ impl State {
             instant: self.now,
         };
         let slot = usize::from(transit.slot);
+        // The row is copied and written back: the borrow checker does not cover a change of it in place, by `as_mut` or by `let .. else`.
         let mut row = self.rows[slot]?;
         let ended = row.enter(transit.outcome(), note);
         self.rows[slot] = Some(row);

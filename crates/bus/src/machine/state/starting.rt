@@ -26,7 +26,8 @@ impl State {
     }
 
     // The waiting frame that goes before the others, if any waits.
-    // A loop and not a chain: that a frame can still be sent, which its row asks, is known slot by slot.
+    // A loop and not a chain: the row asks that its frame can still be sent, which a closure does not know of the slot that it is given;
+    // the proof of a chain did not close.
     fn front<R: Rule>(&self, rule: &R) -> Option<Candidate>
         requires { AllSendable self.now.now (rows_of self.now.rows) }
         ensures { option_map candidate_of result ≡ front (R.before rule.now) (candidates self.entry.now.now 0 (rows_of self.entry.now.rows)) }
@@ -60,12 +61,8 @@ impl State {
 fn ahead<R: Rule>(rule: &R, first: Option<Candidate>, next: Option<Candidate>) -> Option<Candidate>
     ensures { option_map candidate_of result ≡ ahead (R.before rule.now) (option_map candidate_of first) (option_map candidate_of next) }
 {
-    let (Some(a), Some(b)) = (first, next) else {
-        return first.or(next);
-    };
-    if rule.goes_before(&b.shown, &a.shown) {
-        next
-    } else {
-        first
+    match (&first, &next) {
+        (Some(a), Some(b)) if rule.goes_before(&b.shown, &a.shown) => next,
+        _ => first.or(next),
     }
 }

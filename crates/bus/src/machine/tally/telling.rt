@@ -11,16 +11,11 @@ use crate::machine::tally::Tally;
 use firm::Outcome;
 
 impl Tally {
-    // What is told of no outcome.
+    // What is told of no outcome: the default, under a name whose clause says in the words of the model what it is.
     pub fn nothing() -> Tally
         ensures { tally_of result ≡ tally [] }
     {
-        Tally {
-            met: 0,
-            missed: 0,
-            failures: 0,
-            first: None,
-        }
+        Tally::default()
     }
 
     // What is told of some outcomes and then of others. A count that would pass 64 bits stays at the most that they hold.
@@ -59,11 +54,12 @@ impl Tally {
 }
 
 // The sooner of two failures; either may be absent.
+// A function of its own, as is that of two waiting frames: one for both orders would be a third, since each says its own result.
 fn soonest(a: Option<Failure>, b: Option<Failure>) -> Option<Failure>
     ensures { option_map failure_note result ≡ soonest (option_map failure_note a) (option_map failure_note b) }
 {
-    match (a, b) {
-        (Some(x), Some(y)) if y.is_sooner(&x) => b,
+    match (&a, &b) {
+        (Some(x), Some(y)) if y.is_sooner(x) => b,
         _ => a.or(b),
     }
 }
