@@ -1,5 +1,5 @@
 -- The figures of a stretch of the quiet schedule are those of the schedule from where the stretch begins. Assumes nothing.
-use Rattle.std.proofs.Common.{◌≡◌, ℕ, zero, suc, ◌+◌, ◌-◌, ◌*◌, ◌/◌, ◌≤◌, Bool, true, false, cond, not, replicate, sym, refl, ap, ◌∙◌, add-mul, zero-add, arith, lit≤}
+use Rattle.std.proofs.Common.{◌≡◌, ℕ, zero, suc, ◌+◌, ◌-◌, ◌*◌, ◌/◌, ◌≤◌, Bool, false, cond, not, replicate, sym, refl, ap, ◌∙◌, add-mul, zero-add, arith, lit≤}
 use Rattle.std.proofs.lemmas.Bool.{cond_both}
 use Rattle.model.specs.Ready.{Ready}
 use Rattle.model.specs.Machine.{State}
