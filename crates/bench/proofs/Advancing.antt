@@ -1,5 +1,5 @@
 -- Quiet units, one after the other: where they lead, what they tell, and that the counts stay small. Assumes nothing.
-use Rattle.std.proofs.Common.{◌≡◌, ℕ, suc, ◌+◌, ◌*◌, ◌/◌, ◌<◌, ◌≤◌, Bool, true, false, not, ltb, cond, List, [], ◌∷◌, ◌++◌, length, replicate, Ok, refl, sym, ap, ◌∙◌, subst, append-nil, zero-add, add-one, arith}
+use Rattle.std.proofs.Common.{◌≡◌, ℕ, suc, ◌+◌, ◌*◌, ◌/◌, ◌<◌, ◌≤◌, Bool, true, false, ltb, cond, List, [], ◌∷◌, length, replicate, Ok, refl, sym, ap, ◌∙◌, subst, append-nil, zero-add, add-one, arith}
 use Rattle.std.proofs.lemmas.Bool.Decides.{nat_tests}
 use Rattle.refusal.specs.Tests.{on_ok, kept}
 use Rattle.model.specs.Bench.{last_instant, disturbed, state_after, tally_after}
@@ -9,22 +9,14 @@ use Rattle.model.specs.Figures.{busy, busy_units, figures_over}
 use Rattle.model.specs.Schedule.{run, ran, after}
 use Rattle.model.specs.Tally.{Tally, tally}
 use Rattle.model.proofs.Runs.{run_more, ran_more}
-use Rattle.model.proofs.Tallies.{how_many_append, how_many_not, first_failure_append}
+use Rattle.model.proofs.Tallies.{how_many_not}
 use Rattle.promise.proofs.Runs.{run_quiet}
 use Rattle.bus.specs.Machines as one
 use Rattle.bus.specs.Machines.{at_limit}
 use Rattle.bus.specs.Tallies.{together}
+use Rattle.bus.proofs.Telling.{tally_together}
 use Rattle.bench.proofs.Stretches.{figures_by}
 use Rattle.bench.proofs.Quiet.{quiet_now, quiet_few}
-
-tally_together : (xs ys : List Outcome) → tally (xs ++ ys) ≡ together (tally xs) (tally ys)
-unfolding tally
-tally_together xs ys =
-    let met = how_many_append (λ o. o.met) xs ys in
-    let missed = how_many_append (λ o. not o.met) xs ys in
-    let failures = how_many_append (λ o. o.failure) xs ys in
-    let first = first_failure_append xs ys in
-    cc
 
 module _ (before : Ready → Ready → Bool) (s : State) where
   -- n quiet units from s lead to x and tell t

@@ -1,5 +1,6 @@
 -- The figures of a forecast that holds, measured from its first boundary of the two. Assumes nothing.
 use Rattle.std.proofs.Common.{◌≡◌, ℕ, ◌+◌, ◌-◌, ◌*◌, ◌%◌, ◌<◌, ◌≤◌, Bool, Ok, Err, Result, ap, ◌∙◌, le_refl, add-mul, mul-le-mul, one-mul, arith, rules}
+use Rattle.std.proofs.lemmas.Bool.{true≢false}
 use Rattle.std.specs.Result.{IsOk}
 use Rattle.model.specs.Bench.{last_instant}
 use Rattle.model.specs.Forecast.{table_of, period_of, units_to, Holds}
@@ -21,7 +22,7 @@ module _ (before : Ready → Ready → Bool) (s : State) (h : Sound s) where
   walk_is_ok i j holding n x (Ok u) w = search rules
   walk_is_ok i j holding n x (Err f) w =
       let same : holds i j ≡ fails (failure_note f) = one_answer before s h (holds i j) (fails (failure_note f)) holding w in
-      absurd (let z : ◌≡◌ {A = ℕ} 0 1 = cc in omega arith)
+      absurd (true≢false cc)
 
 -- the way to the first of the two boundaries, n units to boundary 0 and then i hyper-periods of p units, and from it to the second
 pub record Way (s : State) (i j p n : ℕ) : Type 0 where

@@ -1,5 +1,6 @@
 -- The figures of a stretch of the quiet schedule are those of the schedule from where the stretch begins. Assumes nothing.
-use Rattle.std.proofs.Common.{◌≡◌, ℕ, zero, suc, ◌+◌, ◌-◌, ◌*◌, ◌/◌, ◌≤◌, Bool, true, false, cond, not, replicate, sym, refl, ap, ◌∙◌, add-mul, zero-add, arith}
+use Rattle.std.proofs.Common.{◌≡◌, ℕ, zero, suc, ◌+◌, ◌-◌, ◌*◌, ◌/◌, ◌≤◌, Bool, false, cond, not, replicate, sym, refl, ap, ◌∙◌, add-mul, zero-add, arith, lit≤}
+use Rattle.std.proofs.lemmas.Bool.{cond_both}
 use Rattle.model.specs.Ready.{Ready}
 use Rattle.model.specs.Machine.{State}
 use Rattle.model.specs.Schedule.{ran, after}
@@ -8,16 +9,12 @@ use Rattle.model.specs.Forecast.{period_of, units_to}
 use Rattle.model.specs.Figures.{busy, busy_units, figures_over, figures}
 use Rattle.rounds.proofs.Returns.{after_more}
 
-one_or_none : (t : Bool) → cond t 1 0 ≤ 1
-one_or_none true = omega arith
-one_or_none false = omega arith
-
 module _ (before : Ready → Ready → Bool) (s : State) where
   -- no more units are busy than there are
   pub busy_units_few : (k n : ℕ) → busy_units before s k n ≤ n
   unfolding busy_units
   busy_units_few k zero = omega arith
-  busy_units_few k (suc n) = omega (arith, busy_units_few k n, one_or_none (busy before (after before s (k + n))))
+  busy_units_few k (suc n) = omega (arith, busy_units_few k n, cond_both (busy before (after before s (k + n))) 1 0 (λ m. m ≤ 1) (λ e. lit≤ tt) (λ e. lit≤ tt))
 
   pub busy_units_from : (k n : ℕ) → busy_units before s k n ≡ busy_units before (after before s k) 0 n
   unfolding busy_units

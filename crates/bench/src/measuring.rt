@@ -11,6 +11,7 @@ use bus::{Machine, Rule, Tally};
 impl<R: Rule> Running<R> {
     // The figures of the next quiet units of a bus, none of which passes the last instant of the machine.
     // A loop and not a chain: the bus changes with each unit, and is asked before each whether it will be busy.
+    // That no unit passes the last instant is no type, as at `quiet_unit`.
     pub(crate) fn figures_over(&self, mut bus: Machine, units: u64) -> Figures
         requires some { 0 < units }
         requires early { (state_of bus).now + units ≤ machine_limit }

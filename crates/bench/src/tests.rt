@@ -16,11 +16,6 @@ fn numbers([period, deadline, service, m, k, history]: [u64; 6]) -> Numbers {
     }
 }
 
-// The number of a refusal, or 0.
-fn number(answer: Result<(), Refusal>) -> u8 {
-    answer.err().map_or(0, Refusal::number)
-}
-
 // How many outcomes were met, missed and failures, or the number of the refusal.
 fn counts(answer: Result<Tally, Refusal>) -> Result<(u64, u64, u64), u8> {
     answer
@@ -32,16 +27,16 @@ fn counts(answer: Result<Tally, Refusal>) -> Result<(u64, u64, u64), u8> {
 fn calls(rt: HostRuntime) {
     let mut laid = Laid::new(Lower);
     let answers = [
-        (number(laid.fit(8, numbers([0, 0, 0, 0, 0, 0]))), 1),
-        (number(laid.fit(0, numbers([4, 4, 1, 1, 1, 2]))), 7),
-        (number(laid.fit(0, numbers([4, 4, 1, 1, 1, 1]))), 0),
-        (number(laid.fit(0, numbers([4, 4, 1, 1, 1, 1]))), 20),
-        (number(laid.pull(1)), 21),
-        (number(laid.prime(0, 2)), 7),
-        (number(laid.prime(0, 0)), 0),
+        (laid.fit(8, numbers([0, 0, 0, 0, 0, 0])), Err(1)),
+        (laid.fit(0, numbers([4, 4, 1, 1, 1, 2])), Err(7)),
+        (laid.fit(0, numbers([4, 4, 1, 1, 1, 1])), Ok(())),
+        (laid.fit(0, numbers([4, 4, 1, 1, 1, 1])), Err(20)),
+        (laid.pull(1), Err(21)),
+        (laid.prime(0, 2), Err(7)),
+        (laid.prime(0, 0), Ok(())),
     ];
     for (given, wanted) in answers {
-        assert_eq!(rt; given, wanted);
+        assert_eq!(rt; given.map_err(Refusal::number), wanted);
     }
     let mut running = laid.start();
     let told = [
@@ -52,7 +47,7 @@ fn calls(rt: HostRuntime) {
     for (given, wanted) in told {
         assert_eq!(rt; given, wanted);
     }
-    assert_eq!(rt; number(running.stop().pull(0)), 0);
+    assert_eq!(rt; running.stop().pull(0).map_err(Refusal::number), Ok(()));
 }
 
 // Two streams that pass and cannot both be served: the failure that an advance tells is the first of its twenty units.

@@ -1,5 +1,6 @@
 -- The lines of a true answer with its figures. Assumes nothing.
-use Rattle.std.proofs.Common.{◌≡◌, ℕ, Bool, List, [], ◌∷◌, ◌++◌, Some, None, ap, ◌∙◌, arith}
+use Rattle.std.proofs.Common.{◌≡◌, ℕ, Bool, List, [], ◌∷◌, ◌++◌, Some, None, ap, ◌∙◌}
+use Rattle.std.proofs.lemmas.Bool.{true≢false}
 use Rattle.std.proofs.lemmas.List.{append_assoc}
 use Rattle.model.specs.Figures.{Measures, figures}
 use Rattle.model.specs.Forecast.{Tells}
@@ -31,11 +32,11 @@ module _ (before : Ready → Ready → Bool) (s : State) (sound : ∥ Sound s �
       let same : figures_of x ≡ figures before s i j = let m = measures.holding i j tells in cc in
       let regrouped : forecast_text (Holds i j) ++ ((10 ∷ []) ++ (figures_text x ++ (10 ∷ []))) ≡ holding i j ++ figured (figures_of x) = simp append_assoc in
       told (Holds i j) tells bytes (e ∙ regrouped ∙ ap (λ y. holding i j ++ figured y) same)
-  told_with (Fails g) x tells measures bytes e = let m = measures.failing _ tells in let z : ◌≡◌ {A = ℕ} 0 1 = cc in absurd (omega arith)
+  told_with (Fails g) x tells measures bytes e = let m = measures.failing _ tells in absurd (true≢false cc)
 
   -- without them it fails
   pub told_without :
       (f : Forecast) → Tells before s (answer_of f) → Measures before s None → (bytes : List ℕ)
       → bytes ≡ forecast_text f ++ (10 ∷ []) → Foretold before s bytes
-  told_without (Holds i j) tells measures bytes e = let m = measures.holding i j tells in let z : ◌≡◌ {A = ℕ} 0 1 = cc in absurd (omega arith)
+  told_without (Holds i j) tells measures bytes e = let m = measures.holding i j tells in absurd (true≢false cc)
   told_without (Fails g) tells measures bytes e = told (Fails g) tells bytes (e ∙ simp append_assoc)

@@ -1,5 +1,7 @@
 // Answers many inputs in one run with forecasts: each line of standard input is one whole input in hexadecimal, and the lines of its
 // forecast follow on standard output. The expected answers come from simulators that were made apart from this product.
+// It stands beside the program without forecasts, which differs in the crate that answers: a main takes nothing that could tell the two apart,
+// and what they share is `answer_all`.
 #![tactic(auto)]
 
 use forecast_report::respond;

@@ -49,6 +49,7 @@ impl<R: Rule> Rule for Mutuality<R> {
 }
 
 // The slots counted down from 7. Slots above 7 it does not tell apart, and no bus has them.
+// A rule of its own beside the one of `bus` with the higher slot first: it shows that another's bottom needs only the public face of `bus` too.
 #[derive(Clone, Copy)]
 pub struct FromLast;
 

@@ -27,15 +27,12 @@ impl<R: Rule + Drop> Bench<R> {
         ensures bench { option_map stands result ≡ calls_from (R.before (rule_in self)) (Some (stands self)) (map call_of calls.now) }
         ensures rule { IfSome result (λ b. rule_in b ≡ rule_in self) }
     {
-        let mut bench = self;
-        for call in calls {
-            bench = bench.call(call)?;
-        }
-        Some(bench)
+        calls.iter().try_fold(self, |bench, call| bench.call(call))
     }
 }
 
 // Works a call on a laid bench.
+// A match over the calls and no table of closures: each call is another method with other arguments.
 fn call_laid<R: Rule + Drop>(mut bench: Laid<R>, call: &Call) -> Option<Bench<R>>
     ensures bench { option_map stands result ≡ called (R.before bench.rule) (laid (table_in bench)) (call_of call.now) }
     ensures rule { IfSome result (λ b. rule_in b ≡ bench.rule) }
@@ -59,7 +56,7 @@ fn call_laid<R: Rule + Drop>(mut bench: Laid<R>, call: &Call) -> Option<Bench<R>
     Some(Bench::Laid(bench))
 }
 
-// Works a call on a running bench.
+// Works a call on a running bench. A match and no table of closures, as for a laid one.
 fn call_running<R: Rule + Drop>(mut bench: Running<R>, call: &Call) -> Option<Bench<R>>
     ensures bench { option_map stands result ≡ called (R.before bench.rule) (running (table_under bench) (state_in bench)) (call_of call.now) }
     ensures rule { IfSome result (λ b. rule_in b ≡ bench.rule) }

@@ -19,6 +19,8 @@ fn judge(input: &[u8]) -> Result<Table, Fault>
 }
 
 // The bytes to print for an input, or `AllocError` where there is no memory for them.
+// What it shares with `forecast_report` is this match alone: one function of both would take the reading and the printing as closures,
+// and be longer than the match.
 pub fn respond(heap: Global, input: &[u8]) -> Result<String, AllocError>
     ensures value { IfOk result (λ s. string_bytes s ≡ printed input.now) }
     ensures admits { IfOk result (λ s. Admits input.now (string_bytes s)) }

@@ -10,6 +10,8 @@ use streams::Numbers;
 const NO_CALL: &str = "a line is no bench call";
 
 // A new bench over a ranking rule, or a call of the bench with its arguments.
+// It names the calls itself and holds no `replay::Call`: that one borrows its file, for which a command would need a lifetime and an owner beside it,
+// and knows no forecast and no figures, so that the two kinds of calls would be matched one in the other.
 #[derive(Drop)]
 pub(crate) enum Command {
     Rule(Ranking),

@@ -17,6 +17,9 @@ pub(crate) fn work(bench: Bench<Ranking>, command: &Command) -> anyhow::Result<W
     }
 }
 
+// A match of its own and not `replay`'s: that one lets every answer go, and here each is printed. One that gave them would need the kinds of answers
+// and of refusals there, and forecasts and figures would still be a second match here.
+// A match and no table of closures: each call is another method with other arguments.
 fn work_laid(mut laid: Laid<Ranking>, command: &Command) -> anyhow::Result<Worked> {
     let changed = match command {
         Command::Fit { slot, numbers } => laid.fit(*slot, *numbers).map_err(Refused::from),
@@ -29,6 +32,7 @@ fn work_laid(mut laid: Laid<Ranking>, command: &Command) -> anyhow::Result<Worke
     Ok((Bench::Laid(laid), changed.map(|()| Told::Done)))
 }
 
+// A match of its own and not `replay`'s, for the same two reasons.
 fn work_running(mut running: Running<Ranking>, command: &Command) -> anyhow::Result<Worked> {
     let answer = match command {
         Command::Advance { units } => running

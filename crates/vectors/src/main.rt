@@ -1,6 +1,8 @@
 // Answers many inputs of the program in one run: each line of standard input is one whole input in hexadecimal,
 // and what the program would print for it follows on standard output. The expected answers come from simulators
 // that were made apart from this product.
+// It stands beside the program with forecasts, which differs in the crate that answers: a main takes nothing that could tell the two apart,
+// and what they share is `answer_all`.
 #![tactic(auto)]
 
 use inputs::answer_all;

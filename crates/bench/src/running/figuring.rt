@@ -26,7 +26,8 @@ impl<R: Rule> Running<R> {
         self.figures_over(bus, (round.to - round.from) * period)
     }
 
-    // The forecast and its figures, by one search.
+    // The forecast and its figures, by one search. A pair and no type of its own: the figures are missing just where the forecast fails,
+    // but a forecast that is asked for alone has none.
     pub fn forecast_with_figures(&self) -> (Forecast, Option<Figures>)
         ensures forecast { Tells (R.before self.now.rule) (state_in self.now) (answer_of result.0) }
         ensures figures { Measures (R.before self.now.rule) (state_in self.now) (option_map figures_of result.1) }

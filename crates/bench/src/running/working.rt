@@ -48,7 +48,7 @@ impl<R: Rule> Running<R> {
     }
 
     // Works quiet units of a bus, none of which passes the last instant, and tells of their outcomes.
-    // A loop of its own: a walk ends at the first failure and adds nothing up.
+    // A loop of its own: a walk ends at the first failure and adds nothing up. That no unit passes the last instant is no type, as at `quiet_unit`.
     fn quiet_units(&self, bus: &mut Machine, units: u64) -> Tally
         requires few { units ≤ 65535 }
         requires early { (state_of bus.old).now + units ≤ last_instant }

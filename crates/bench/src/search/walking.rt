@@ -7,6 +7,8 @@ ghost use Rattle.model.specs.Tally.{tally};
 use crate::running::Running;
 use bus::{Failure, Machine, Rule, Tally};
 
+// That no unit passes the last instant is asked of each call and is no type: a type for it would have to hold the bus and the units to come,
+// and each unit would make another.
 impl<R: Rule> Running<R> {
     // Works one quiet unit of a bus that has not come to the machine's last instant, and tells of its outcomes.
     pub(crate) fn quiet_unit(&self, bus: &mut Machine) -> Tally

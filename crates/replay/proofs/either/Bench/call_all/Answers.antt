@@ -1,19 +1,22 @@
-use Rattle.std.proofs.Common.{ap, ◌∙◌}
-use Rattle.replay.proofs.Calls.{left_all, left_more, left_none}
+use Rattle.std.proofs.Common.{rules, subst}
+use Rattle.replay.proofs.Calls.{Leads, leads_all}
+use Rattle.replay.specs.Stands.{call_of, rule_in, stands}
+use Rattle.replay.proofs.either.Bench.call_all.Given as given
 use Rattle.replay.proofs.either.Bench.call_all.Goals as goal
+use Rattle.replay.proofs.either.Bench.call_all.Goals.{After-try_fold}
 
-pub loop-call-preserved : goal.loop-call-preserved
-loop-call-preserved g c = (
-  left_more _ _ _ _ c.loop-call.call-index _ _ _ _ c.loop-call-test.true c.loop-call.invariant.0 (ap g.R.Rule.before c.loop-call.invariant.1)
-      c.in_ok-bench.ensures.bench,
-  c.in_ok-bench.ensures.rule ∙ c.loop-call.invariant.1,
-)
-
-pub returns-in_err-bench-clause-bench : goal.returns-in_err-bench-clause-bench
-returns-in_err-bench-clause-bench g c =
-    rw c.from_residual.ensures
-    (left_none _ _ _ _ _ (left_more _ _ _ _ c.loop-call.call-index _ _ _ _ c.loop-call-test.true c.loop-call.invariant.0 (ap g.R.Rule.before c.loop-call.invariant.1)
-    c.in_err-bench.ensures.bench))
+-- where all the calls lead
+leads :
+    (g : given.Over) (c : After-try_fold g)
+    → Leads call_of stands rule_in g.R.Rule.before (rule_in c.args.self) (stands c.args.self) c.args.calls.now c.try_fold.result
+leads g c =
+    let d = c.try_fold.ensures.ran in
+    subst (λ l. Leads call_of stands rule_in g.R.Rule.before (rule_in c.args.self) (stands c.args.self) l c.try_fold.result) c.iter.ensures.rest
+    (leads_all call_of stands rule_in g.R.Rule.before _ (λ p q b x v called. (search rules, search rules))
+    d.0 d.1 _ d.4.0 _ _ d.2 _ d.3 _ d.4.1 d.4.2 d.5 d.6)
 
 pub returns-clause-bench : goal.returns-clause-bench
-returns-clause-bench g c = left_all _ _ _ _ c.loop-call.call-index _ c.loop-call-test.false c.loop-call.invariant.0
+returns-clause-bench g c = (leads g c).0
+
+pub returns-clause-rule : goal.returns-clause-rule
+returns-clause-rule g c = (leads g c).1
