@@ -40,7 +40,7 @@ fn number(bytes: &[u8]) -> u64
     match bytes {
         [] => 0,
         [byte] => u64::from(*byte),
-        [high, low, ..] => 256 * u64::from(*high) + u64::from(*low),
+        [high, low, ..] => u64::from(u16::from_be_bytes([*high, *low])),
     }
 }
 
@@ -62,7 +62,7 @@ fn field(map: u8, bit: u8, bytes: &[u8], missing: u64) -> (u64, &[u8])
 fn all_met(k: u64) -> u64
     ensures { k < 64 → result ≡ 2 ^ k - 1 }
 {
-    if k < 64 { (1 << k) - 1 } else { 0 }
+    (1 << k.min(63)) - 1
 }
 
 impl Record<'_> {
@@ -76,7 +76,7 @@ impl Record<'_> {
         ensures history { result.k < 64 → result.history ≡ history self.now.bytes.now }
     {
         let [map, rest @ ..] = self.bytes else {
-            unreachable()
+            unreachable!()
         };
         let (period, rest) = field(*map, 0, rest, before);
         let (service, rest) = field(*map, 1, rest, 1);
