@@ -5,12 +5,9 @@ ghost use Rattle.model.specs.Fields.{stands, size, extent, number, period, servi
 use crate::record::Record;
 use streams::Numbers;
 
-// Whether a bit of a map stands.
-pub(crate) fn has(map: u8, bit: u8) -> bool
-    ensures { result ≡ stands map bit }
-{
-    map.unbounded_shr(u32::from(bit)) % 2 == 1
-}
+// A map of a file, a bit for each thing that may stand: the slot map, or the field map of a record.
+#[derive(Clone, Copy)]
+pub(crate) struct Map(pub u8);
 
 // The bytes of a field: one for k and m, two for the others.
 fn size(bit: u8) -> usize
@@ -19,18 +16,42 @@ fn size(bit: u8) -> usize
     if bit == 3 || bit == 4 { 1 } else { 2 }
 }
 
-// The bytes of a field in a record with this field map: none where its bit does not stand.
-fn held(map: u8, bit: u8) -> usize
-    ensures { result ≡ (if stands map bit then size bit else 0) }
-{
-    if has(map, bit) { size(bit) } else { 0 }
-}
+impl Map {
+    // Whether a bit of the map stands.
+    pub(crate) fn has(self, bit: u8) -> bool
+        ensures { result ≡ stands self.0 bit }
+    {
+        self.0.unbounded_shr(u32::from(bit)) % 2 == 1
+    }
 
-// The bytes of a record with this field map, the map itself among them.
-pub(crate) fn record_len(map: u8) -> usize
-    ensures { result ≡ extent map }
-{
-    1 + held(map, 0) + held(map, 1) + held(map, 2) + held(map, 3) + held(map, 4) + held(map, 5)
+    // The bytes of a field in a record with this field map: none where its bit does not stand.
+    fn held(self, bit: u8) -> usize
+        ensures { result ≡ (if stands self.0 bit then size bit else 0) }
+    {
+        if self.has(bit) { size(bit) } else { 0 }
+    }
+
+    // The bytes of a record with this field map, the map itself among them.
+    // A sum of six and not a chain: the proof of the chain did not close.
+    pub(crate) fn record_len(self) -> usize
+        ensures { result ≡ extent self.0 }
+    {
+        1 + self.held(0) + self.held(1) + self.held(2) + self.held(3) + self.held(4) + self.held(5)
+    }
+
+    // The number of a field, which is `missing` where its bit does not stand, and the bytes behind it.
+    fn field(self, bit: u8, bytes: &[u8], missing: u64) -> (u64, &[u8])
+        requires { stands self.0 bit ≡ true → size bit ≤ length bytes.now }
+        ensures value { result.0 ≡ (if stands self.0 bit then number (size bit) bytes.now else missing) }
+        ensures rest { result.1.now ≡ drop (if stands self.0 bit then size bit else 0) bytes.now }
+    {
+        if self.has(bit) {
+            let (front, rest) = bytes.split_at(size(bit));
+            (number(front), rest)
+        } else {
+            (missing, bytes)
+        }
+    }
 }
 
 // The number that one or two bytes spell, the high byte first.
@@ -41,20 +62,6 @@ fn number(bytes: &[u8]) -> u64
         [] => 0,
         [byte] => u64::from(*byte),
         [high, low, ..] => u64::from(u16::from_be_bytes([*high, *low])),
-    }
-}
-
-// The number of a field, which is `missing` where its bit does not stand, and the bytes behind it.
-fn field(map: u8, bit: u8, bytes: &[u8], missing: u64) -> (u64, &[u8])
-    requires { stands map bit ≡ true → size bit ≤ length bytes.now }
-    ensures value { result.0 ≡ (if stands map bit then number (size bit) bytes.now else missing) }
-    ensures rest { result.1.now ≡ drop (if stands map bit then size bit else 0) bytes.now }
-{
-    if has(map, bit) {
-        let (front, rest) = bytes.split_at(size(bit));
-        (number(front), rest)
-    } else {
-        (missing, bytes)
     }
 }
 
@@ -75,15 +82,16 @@ impl Record<'_> {
         ensures m { result.m ≡ required self.now.bytes.now }
         ensures history { result.k < 64 → result.history ≡ history self.now.bytes.now }
     {
-        let [map, rest @ ..] = self.bytes else {
+        let [byte, rest @ ..] = self.bytes else {
             unreachable!()
         };
-        let (period, rest) = field(*map, 0, rest, before);
-        let (service, rest) = field(*map, 1, rest, 1);
-        let (deadline, rest) = field(*map, 2, rest, period);
-        let (k, rest) = field(*map, 3, rest, 1);
-        let (m, rest) = field(*map, 4, rest, k);
-        let (history, _) = field(*map, 5, rest, all_met(k));
+        let map = Map(*byte);
+        let (period, rest) = map.field(0, rest, before);
+        let (service, rest) = map.field(1, rest, 1);
+        let (deadline, rest) = map.field(2, rest, period);
+        let (k, rest) = map.field(3, rest, 1);
+        let (m, rest) = map.field(4, rest, k);
+        let (history, _) = map.field(5, rest, all_met(k));
         Numbers {
             period,
             deadline,

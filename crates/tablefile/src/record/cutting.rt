@@ -3,7 +3,7 @@ ghost use Rattle.std.specs.Prelude.{◌≡◌, not, is_some};
 ghost use Rattle.refusal.specs.Tests.{on_ok};
 ghost use Rattle.model.specs.Layout.{located, short, admitted, field_map, cut};
 
-use crate::fields::{has, record_len};
+use crate::fields::Map;
 use crate::record::{Reader, Record};
 use refusal::{Fault, Layer, Refusal};
 
@@ -27,16 +27,17 @@ pub(crate) fn too_short(file: &[u8]) -> Fault
 
 impl<'a> Reader<'a> {
     // The tests of the next record's field map: an unknown field, a first record without the period.
-    fn admit(&self, map: u8) -> Result<u8, Refusal>
-        ensures { result ≡ admitted map (not (is_some self.now.before)) }
+    fn admit(&self, byte: u8) -> Result<u8, Refusal>
+        ensures { result ≡ admitted byte (not (is_some self.now.before)) }
     {
-        if has(map, 6) || has(map, 7) {
+        let map = Map(byte);
+        if map.has(6) || map.has(7) {
             return Err(Refusal::FieldUnknown);
         }
-        if self.before.is_none() && !has(map, 0) {
+        if self.before.is_none() && !map.has(0) {
             return Err(Refusal::PeriodMissing);
         }
-        Ok(map)
+        Ok(byte)
     }
 
     // The field map of the next record, tested.
@@ -54,7 +55,7 @@ impl<'a> Reader<'a> {
         ensures { on_ok (λ x. x.bytes.now) result ≡ cut self.now.file.now self.now.at (not (is_some self.now.before)) }
     {
         let map = self.field_map()?;
-        let len = record_len(map);
+        let len = Map(map).record_len();
         if self.file.len() - self.at < len {
             return Err(too_short(self.file));
         }

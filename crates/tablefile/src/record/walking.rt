@@ -5,7 +5,7 @@ ghost use Rattle.streams.specs.Stands.{stream_of};
 ghost use Rattle.model.specs.Layout.{spells, next, slots};
 ghost use Rattle.tablefile.specs.Stands.{progress_of};
 
-use crate::fields::has;
+use crate::fields::Map;
 use crate::record::cutting::at_place;
 use crate::record::{Reader, Record};
 use refusal::{Fault, Layer, Refusal};
@@ -47,7 +47,7 @@ impl Reader<'_> {
         ensures cases { MatchResult result (λ _. slots self.old.file.now 8 ≡ Ok (progress_of self.new)) (λ f. slots self.old.file.now 8 ≡ Err f) }
     {
         for slot in 0..8 {
-            if has(map, slot) {
+            if Map(map).has(slot) {
                 self.lay(slot)?;
             }
         }
