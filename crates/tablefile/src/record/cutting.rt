@@ -27,26 +27,25 @@ pub(crate) fn too_short(file: &[u8]) -> Fault
 
 impl<'a> Reader<'a> {
     // The tests of the next record's field map: an unknown field, a first record without the period.
-    fn admit(&self, byte: u8) -> Result<u8, Refusal>
-        ensures { result ≡ admitted byte (not (is_some self.now.before)) }
+    fn admit(&self, map: Map) -> Result<Map, Refusal>
+        ensures { on_ok (λ m. m.0) result ≡ admitted map.0 (not (is_some self.now.before)) }
     {
-        let map = Map(byte);
         if map.has(6) || map.has(7) {
             return Err(Refusal::FieldUnknown);
         }
         if self.before.is_none() && !map.has(0) {
             return Err(Refusal::PeriodMissing);
         }
-        Ok(byte)
+        Ok(map)
     }
 
     // The field map of the next record, tested.
-    fn field_map(&self) -> Result<u8, Fault>
-        ensures { result ≡ field_map self.now.file.now self.now.at (not (is_some self.now.before)) }
+    fn field_map(&self) -> Result<Map, Fault>
+        ensures { on_ok (λ m. m.0) result ≡ field_map self.now.file.now self.now.at (not (is_some self.now.before)) }
     {
         match &self.file[self.at..] {
             [] => Err(too_short(self.file)),
-            [map, ..] => at_place(self.admit(*map), self.at, Layer::File),
+            [byte, ..] => at_place(self.admit(Map(*byte)), self.at, Layer::File),
         }
     }
 
@@ -55,7 +54,7 @@ impl<'a> Reader<'a> {
         ensures { on_ok (λ x. x.bytes.now) result ≡ cut self.now.file.now self.now.at (not (is_some self.now.before)) }
     {
         let map = self.field_map()?;
-        let len = Map(map).record_len();
+        let len = map.record_len();
         if self.file.len() - self.at < len {
             return Err(too_short(self.file));
         }

@@ -41,13 +41,13 @@ impl Reader<'_> {
 
     // Lays the records of all slots whose bit stands in the slot map, lowest slot first.
     // A loop and not a chain: each record moves the reader.
-    pub(crate) fn lay_all(&mut self, map: u8) -> Result<(), Fault>
-        requires map { map ≡ slice_index self.old.file.now 0 }
+    pub(crate) fn lay_all(&mut self, map: Map) -> Result<(), Fault>
+        requires map { map.0 ≡ slice_index self.old.file.now 0 }
         requires fresh { slots self.old.file.now 0 ≡ Ok (progress_of self.old) }
         ensures cases { MatchResult result (λ _. slots self.old.file.now 8 ≡ Ok (progress_of self.new)) (λ f. slots self.old.file.now 8 ≡ Err f) }
     {
         for slot in 0..8 {
-            if Map(map).has(slot) {
+            if map.has(slot) {
                 self.lay(slot)?;
             }
         }

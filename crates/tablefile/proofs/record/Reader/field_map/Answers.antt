@@ -2,7 +2,10 @@ use Rattle.std.proofs.Common.{◌<◌, ◌≤◌, not, length, is_some, Err, ap,
 use borrow.Author.Tests.{lt-leb}
 use Rattle.refusal.specs.declared.Layer.TheVariants.{File}
 use Rattle.model.specs.Layout.{field_map, located, admitted}
+use Rattle.refusal.specs.Tests.{on_ok}
+use Rattle.tablefile.specs.declared.fields.Map.{Map}
 use Rattle.tablefile.proofs.Parts.{front}
+use Rattle.tablefile.proofs.Steps.{located_on}
 use Rattle.tablefile.proofs.record.Reader.field_map.Goals as goal
 
 pub returns-in-empty : goal.returns-in-empty
@@ -19,4 +22,4 @@ returns-in-len1-up c =
     let place = c.args.self.now.at in
     let inside : c.args.self.now.at < length c.args.self.now.file.now = search rules in
     let t = lt-leb (length file) place inside in
-    simp t (c.at_place.ensures ∙ ap (located place File) (c.admit.ensures ∙ ap (λ b. admitted b (not (is_some c.args.self.now.before))) (front place file)))
+    simp t (ap (on_ok (λ (m : Map). m.0)) c.at_place.ensures ∙ located_on place File (λ m. m.0) c.admit.result ∙ ap (located place File) (c.admit.ensures ∙ ap (λ b. admitted b (not (is_some c.args.self.now.before))) (front place file)))

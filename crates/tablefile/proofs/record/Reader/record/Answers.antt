@@ -13,10 +13,10 @@ returns-in_err-map c =
 pub returns-then-self-len : goal.returns-then-self-len
 returns-then-self-len c =
     let len = c.record_len-len.ensures in
-    ap Err c.too_short.ensures ∙ cut_short c.args.self.now.file.now c.args.self.now.at (not (is_some c.args.self.now.before)) c.in_ok-map.map c.in_ok-map.ensures (omega (arith, len))
+    ap Err c.too_short.ensures ∙ cut_short c.args.self.now.file.now c.args.self.now.at (not (is_some c.args.self.now.before)) c.in_ok-map.map.0 c.in_ok-map.ensures (omega (arith, len))
 
 cutting : (c : After-record_len-len) → c.record_len-len.result ≤ length c.args.self.now.file.now - c.args.self.now.at → Ok (take (c.args.self.now.at + c.record_len-len.result - c.args.self.now.at) (drop c.args.self.now.at c.args.self.now.file.now)) ≡ cut c.args.self.now.file.now c.args.self.now.at (not (is_some c.args.self.now.before))
-cutting c fits = cut_part c.args.self.now.file.now c.args.self.now.at (not (is_some c.args.self.now.before)) c.in_ok-map.map c.record_len-len.result c.in_ok-map.ensures c.record_len-len.ensures (omega arith)
+cutting c fits = cut_part c.args.self.now.file.now c.args.self.now.at (not (is_some c.args.self.now.before)) c.in_ok-map.map.0 c.record_len-len.result c.in_ok-map.ensures c.record_len-len.ensures (omega arith)
 
 pub invariant_of-result : goal.invariant_of-result
 invariant_of-result c = record { whole = (cut_ok _ _ _ _ (sym (cutting (goal.at.invariant_of-result c).After-record_len-len c.if-self-len.false))).sized }
