@@ -1,6 +1,7 @@
 // The fields of a record, taken from the front of its bytes.
 ghost use Rattle.std.specs.Prelude.{◌≡◌, ◌+◌, ◌-◌, ◌*◌, ◌^◌, ◌<◌, ◌≤◌, true, length, drop, if◌then◌else◌, slice_index};
 ghost use Rattle.model.specs.Fields.{stands, size, extent, number, period, service, deadline, window, required, history};
+ghost use Rattle.tablefile.specs.Bits.{bit};
 
 use crate::record::Record;
 use streams::Numbers;
@@ -9,11 +10,27 @@ use streams::Numbers;
 #[derive(Clone, Copy)]
 pub(crate) struct Map(pub u8);
 
-// The bytes of a field: one for k and m, two for the others.
-fn size(bit: u8) -> usize
-    ensures { result ≡ size bit }
-{
-    if bit == 3 || bit == 4 { 1 } else { 2 }
+// The fields of a record, lowest first. The discriminant is the field's bit in a field map.
+#[derive(Clone, Copy)]
+pub(crate) enum Field {
+    Period = 0,
+    Service = 1,
+    Deadline = 2,
+    Window = 3,
+    Required = 4,
+    History = 5,
+}
+
+impl Field {
+    // The bytes of the field: one for k and m, two for the others.
+    fn size(self) -> usize
+        ensures { result ≡ size (bit self) }
+    {
+        match self {
+            Field::Window | Field::Required => 1,
+            _ => 2,
+        }
+    }
 }
 
 impl Map {
@@ -24,11 +41,18 @@ impl Map {
         self.0.unbounded_shr(u32::from(bit)) % 2 == 1
     }
 
-    // The bytes of a field in a record with this field map: none where its bit does not stand.
-    fn held(self, bit: u8) -> usize
-        ensures { result ≡ (if stands self.0 bit then size bit else 0) }
+    // Whether a record with this field map has the field.
+    pub(crate) fn holds(self, field: Field) -> bool
+        ensures { result ≡ stands self.0 (bit field) }
     {
-        if self.has(bit) { size(bit) } else { 0 }
+        self.has(field as u8)
+    }
+
+    // The bytes of a field in a record with this field map: none where its bit does not stand.
+    fn held(self, field: Field) -> usize
+        ensures { result ≡ (if stands self.0 (bit field) then size (bit field) else 0) }
+    {
+        if self.holds(field) { field.size() } else { 0 }
     }
 
     // The bytes of a record with this field map, the map itself among them.
@@ -36,17 +60,22 @@ impl Map {
     pub(crate) fn record_len(self) -> usize
         ensures { result ≡ extent self.0 }
     {
-        1 + self.held(0) + self.held(1) + self.held(2) + self.held(3) + self.held(4) + self.held(5)
+        1 + self.held(Field::Period)
+            + self.held(Field::Service)
+            + self.held(Field::Deadline)
+            + self.held(Field::Window)
+            + self.held(Field::Required)
+            + self.held(Field::History)
     }
 
     // The number of a field, which is `missing` where its bit does not stand, and the bytes behind it.
-    fn field(self, bit: u8, bytes: &[u8], missing: u64) -> (u64, &[u8])
-        requires { stands self.0 bit ≡ true → size bit ≤ length bytes.now }
-        ensures value { result.0 ≡ (if stands self.0 bit then number (size bit) bytes.now else missing) }
-        ensures rest { result.1.now ≡ drop (if stands self.0 bit then size bit else 0) bytes.now }
+    fn field(self, field: Field, bytes: &[u8], missing: u64) -> (u64, &[u8])
+        requires { stands self.0 (bit field) ≡ true → size (bit field) ≤ length bytes.now }
+        ensures value { result.0 ≡ (if stands self.0 (bit field) then number (size (bit field)) bytes.now else missing) }
+        ensures rest { result.1.now ≡ drop (if stands self.0 (bit field) then size (bit field) else 0) bytes.now }
     {
-        if self.has(bit) {
-            let (front, rest) = bytes.split_at(size(bit));
+        if self.holds(field) {
+            let (front, rest) = bytes.split_at(field.size());
             (number(front), rest)
         } else {
             (missing, bytes)
@@ -86,12 +115,12 @@ impl Record<'_> {
             unreachable!()
         };
         let map = Map(*byte);
-        let (period, rest) = map.field(0, rest, before);
-        let (service, rest) = map.field(1, rest, 1);
-        let (deadline, rest) = map.field(2, rest, period);
-        let (k, rest) = map.field(3, rest, 1);
-        let (m, rest) = map.field(4, rest, k);
-        let (history, _) = map.field(5, rest, all_met(k));
+        let (period, rest) = map.field(Field::Period, rest, before);
+        let (service, rest) = map.field(Field::Service, rest, 1);
+        let (deadline, rest) = map.field(Field::Deadline, rest, period);
+        let (k, rest) = map.field(Field::Window, rest, 1);
+        let (m, rest) = map.field(Field::Required, rest, k);
+        let (history, _) = map.field(Field::History, rest, all_met(k));
         Numbers {
             period,
             deadline,

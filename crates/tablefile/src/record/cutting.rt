@@ -3,7 +3,7 @@ ghost use Rattle.std.specs.Prelude.{◌≡◌, not, is_some};
 ghost use Rattle.refusal.specs.Tests.{on_ok};
 ghost use Rattle.model.specs.Layout.{located, short, admitted, field_map, cut};
 
-use crate::fields::Map;
+use crate::fields::{Field, Map};
 use crate::record::{Reader, Record};
 use refusal::{Fault, Layer, Refusal};
 
@@ -33,7 +33,7 @@ impl<'a> Reader<'a> {
         if map.has(6) || map.has(7) {
             return Err(Refusal::FieldUnknown);
         }
-        if self.before.is_none() && !map.has(0) {
+        if self.before.is_none() && !map.holds(Field::Period) {
             return Err(Refusal::PeriodMissing);
         }
         Ok(map)
