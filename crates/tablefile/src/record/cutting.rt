@@ -43,10 +43,8 @@ impl<'a> Reader<'a> {
     fn field_map(&self) -> Result<Map, Fault>
         ensures { on_ok (λ m. m.0) result ≡ field_map self.now.file.now self.now.at (not (is_some self.now.before)) }
     {
-        match &self.file[self.at..] {
-            [] => Err(too_short(self.file)),
-            [byte, ..] => at_place(self.admit(Map(*byte)), self.at, Layer::File),
-        }
+        let byte = self.file.get(self.at).ok_or(too_short(self.file))?;
+        at_place(self.admit(Map(*byte)), self.at, Layer::File)
     }
 
     // The next record, or the first fault of its layout.
@@ -54,12 +52,9 @@ impl<'a> Reader<'a> {
         ensures { on_ok (λ x. x.bytes.now) result ≡ cut self.now.file.now self.now.at (not (is_some self.now.before)) }
     {
         let map = self.field_map()?;
-        let len = map.record_len();
-        if self.file.len() - self.at < len {
-            return Err(too_short(self.file));
-        }
-        Ok(Record {
-            bytes: &self.file[self.at..self.at + len],
-        })
+        let bytes = self.file[self.at..]
+            .get(..map.record_len())
+            .ok_or(too_short(self.file))?;
+        Ok(Record { bytes })
     }
 }
