@@ -27,6 +27,7 @@ impl Reader<'_> {
         ensures cases { MatchResult result (λ _. next self.old.file.now slot (progress_of self.old) ≡ Ok (progress_of self.new)) (λ f. next self.old.file.now slot (progress_of self.old) ≡ Err f) }
     {
         let record = self.record()?;
+        // The first record of a file has its period, so the 0 is never read.
         let before = self.before.unwrap_or(0);
         let stream = at_place(record.stream(before), self.at, Layer::Stream)?;
         self.table = at_place(
