@@ -1,5 +1,6 @@
 -- What is known of a record that was cut out of a file. Assumes nothing.
-use Rattle.std.proofs.Common.{◌≡◌, ℕ, ◌+◌, ◌-◌, ◌<◌, ◌≤◌, Bool, true, false, cond, not, ltb, leb, List, length, get_or, take, drop, Ok, Err, Result, sym, refl, ap, ◌∙◌, add-zero, arith, length-drop, length-take-le, get_or-drop, get_or-take, ltb-false, le-ltb, lt-ltb, leb-false}
+use Rattle.std.proofs.Common.{◌≡◌, ℕ, ◌+◌, ◌<◌, ◌≤◌, Bool, true, false, true≢false, cond, not, ltb, leb, List, length, get_or, take, drop, Some, None, Ok, Err, Option, Result, sym, refl, ap, ◌∙◌, add-zero, arith, length-drop, length-take-le, get_or-drop, get_or-take, ltb-false, le-ltb, lt-ltb, leb-false}
+use Rattle.std.specs.Option.{ok_or}
 use Rattle.refusal.specs.Tests.{and_then}
 use Rattle.refusal.specs.declared.Fault.{Fault}
 use Rattle.refusal.specs.declared.Refusal.TheVariants.{FieldUnknown, PeriodMissing}
@@ -9,17 +10,26 @@ use Rattle.model.specs.Layout.{field_map, cut, located, admitted, short}
 
 -- an answer behind a test that refuses came where the test failed
 pub passed : {A E : Type 0} (b : Bool) (e : E) (r : Result A E) (x : A) → cond b (Err e) r ≡ Ok x → (b ≡ false) × (r ≡ Ok x)
-passed true e r x is = absurd (let z : ◌≡◌ {A = ℕ} 0 1 = cc in omega arith)
+passed true e r x is = absurd (true≢false cc)
 passed false e r x is = (refl, is)
 
 -- an answer behind another answer came where that was an `Ok`
 pub came : {A B E : Type 0} (r : Result A E) (f : A → Result B E) (y : B) → and_then r f ≡ Ok y → (x : A) × (r ≡ Ok x) × (f x ≡ Ok y)
 came (Ok x) f y is = (x, refl, is)
-came (Err e) f y is = absurd (let z : ◌≡◌ {A = ℕ} 0 1 = cc in omega arith)
+came (Err e) f y is = absurd (true≢false cc)
+
+-- what an answer made of an option tells of it
+pub there : {A E : Type 0} (o : Option A) (e : E) (x : A) → ok_or o e ≡ Ok x → o ≡ Some x
+there None e x is = absurd (true≢false cc)
+there (Some y) e x is = cc
+
+pub missing : {A E : Type 0} (o : Option A) (e f : E) → ok_or o e ≡ Err f → (o ≡ None) × (f ≡ e)
+missing None e f is = (refl, cc)
+missing (Some y) e f is = absurd (true≢false cc)
 
 pub located_ok : {A : Type 0} (place : ℕ) (who : _) (r : Result A _) (x : A) → located place who r ≡ Ok x → r ≡ Ok x
 located_ok place who (Ok y) x is = ap Ok (cc)
-located_ok place who (Err e) x is = absurd (let z : ◌≡◌ {A = ℕ} 0 1 = cc in omega arith)
+located_ok place who (Err e) x is = absurd (true≢false cc)
 
 module _ (file : List ℕ) (place : ℕ) (first : Bool) where
   pub cut_unmapped : (e : Fault) → Err e ≡ field_map file place first → Err e ≡ cut file place first
@@ -35,12 +45,6 @@ module _ (file : List ℕ) (place : ℕ) (first : Bool) where
 
   pub cut_whole : (map : ℕ) → Ok map ≡ field_map file place first → place + extent map ≤ length file → Ok (take (extent map) (drop place file)) ≡ cut file place first
   cut_whole map is fits = sym (ap (λ b. cond b (Err (short file)) (Ok (take (extent map) (drop place file)))) (le-ltb (length file) (place + extent map) fits)) ∙ cut_mapped map is
-
-  -- as many bytes of the file as a field map says, from the place on
-  pub cut_part : (map len : ℕ) → Ok map ≡ field_map file place first → len ≡ extent map → place + len ≤ length file → Ok (take (place + len - place) (drop place file)) ≡ cut file place first
-  cut_part map len is size fits =
-      let whole : place + len - place ≡ extent map = omega arith in
-      ap (λ n. Ok (take n (drop place file))) whole ∙ cut_whole map is (omega arith)
 
   -- a record has as many bytes as its field map says, and lies in the file where it was cut
   pub record Whole (r : List ℕ) : Type 0 where

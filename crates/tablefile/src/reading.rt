@@ -5,6 +5,7 @@ ghost use Rattle.streams.specs.Tables.{table_of};
 ghost use Rattle.model.specs.Layout.{judged};
 ghost use Rattle.model.specs.Spelling.{Exactly};
 
+use crate::fields::Map;
 use crate::record::Reader;
 use crate::record::cutting::too_short;
 use refusal::{Fault, Layer, Refusal};
@@ -16,7 +17,7 @@ pub fn read(file: &[u8]) -> Result<Table, Fault>
     ensures value { on_ok table_of result ≡ judged file.now }
     ensures exactly { Exactly file.now (on_ok table_of result) }
 {
-    let [map, ..] = file else {
+    let [byte, ..] = file else {
         return Err(too_short(file));
     };
     let mut reader = Reader {
@@ -25,7 +26,7 @@ pub fn read(file: &[u8]) -> Result<Table, Fault>
         before: None,
         table: Table::empty(),
     };
-    reader.lay_all(*map)?;
+    reader.lay_all(Map(*byte))?;
     if reader.at < file.len() {
         return Err(Refusal::BytesFollow.at(reader.at, Layer::File));
     }

@@ -29,7 +29,8 @@ impl History {
         ensures { result ≡ turns outcome (firm_of self.now) }
     {
         let mut history = *self;
-        // A loop and not a chain: the history changes with each step.
+        // A loop and not a chain: `successors` enters one outcome more than is asked about, in each comparison of two
+        // frames, and the library has no lemma on the items that it yields, so the proof of its result did not close.
         for n in 0..self.k {
             if history.is_turned(outcome) {
                 return n;

@@ -11,10 +11,10 @@ impl History {
     pub fn new(m: u64, k: u64, bits: u64) -> Result<History, Refusal>
         ensures { on_ok firm_of result ≡ firm m k bits }
     {
-        if k < 1 || k > 16 {
+        if !(1..=16).contains(&k) {
             return Err(Refusal::WindowRange);
         }
-        if m < 1 || m > k {
+        if !(1..=k).contains(&m) {
             return Err(Refusal::RequiredRange);
         }
         if bits >= 1 << k {

@@ -22,13 +22,13 @@ impl Stream {
             k,
             history,
         } = numbers;
-        if period < 1 || period > 4096 {
+        if !(1..=4096).contains(&period) {
             return Err(Refusal::PeriodRange);
         }
-        if deadline < 1 || deadline > period {
+        if !(1..=period).contains(&deadline) {
             return Err(Refusal::DeadlineRange);
         }
-        if service < 1 || service > deadline {
+        if !(1..=deadline).contains(&service) {
             return Err(Refusal::ServiceRange);
         }
         let history = History::new(m, k, history)?;

@@ -3,7 +3,7 @@ ghost use Rattle.std.specs.Prelude.{◌≡◌, not, is_some};
 ghost use Rattle.refusal.specs.Tests.{on_ok};
 ghost use Rattle.model.specs.Layout.{located, short, admitted, field_map, cut};
 
-use crate::fields::{has, record_len};
+use crate::fields::{Field, Map};
 use crate::record::{Reader, Record};
 use refusal::{Fault, Layer, Refusal};
 
@@ -27,26 +27,24 @@ pub(crate) fn too_short(file: &[u8]) -> Fault
 
 impl<'a> Reader<'a> {
     // The tests of the next record's field map: an unknown field, a first record without the period.
-    fn admit(&self, map: u8) -> Result<u8, Refusal>
-        ensures { result ≡ admitted map (not (is_some self.now.before)) }
+    fn admit(&self, map: Map) -> Result<Map, Refusal>
+        ensures { on_ok (λ m. m.0) result ≡ admitted map.0 (not (is_some self.now.before)) }
     {
-        if has(map, 6) || has(map, 7) {
+        if map.has(6) || map.has(7) {
             return Err(Refusal::FieldUnknown);
         }
-        if self.before.is_none() && !has(map, 0) {
+        if self.before.is_none() && !map.holds(Field::Period) {
             return Err(Refusal::PeriodMissing);
         }
         Ok(map)
     }
 
     // The field map of the next record, tested.
-    fn field_map(&self) -> Result<u8, Fault>
-        ensures { result ≡ field_map self.now.file.now self.now.at (not (is_some self.now.before)) }
+    fn field_map(&self) -> Result<Map, Fault>
+        ensures { on_ok (λ m. m.0) result ≡ field_map self.now.file.now self.now.at (not (is_some self.now.before)) }
     {
-        match &self.file[self.at..] {
-            [] => Err(too_short(self.file)),
-            [map, ..] => at_place(self.admit(*map), self.at, Layer::File),
-        }
+        let byte = self.file.get(self.at).ok_or(too_short(self.file))?;
+        at_place(self.admit(Map(*byte)), self.at, Layer::File)
     }
 
     // The next record, or the first fault of its layout.
@@ -54,12 +52,9 @@ impl<'a> Reader<'a> {
         ensures { on_ok (λ x. x.bytes.now) result ≡ cut self.now.file.now self.now.at (not (is_some self.now.before)) }
     {
         let map = self.field_map()?;
-        let len = record_len(map);
-        if self.file.len() - self.at < len {
-            return Err(too_short(self.file));
-        }
-        Ok(Record {
-            bytes: &self.file[self.at..self.at + len],
-        })
+        let bytes = self.file[self.at..]
+            .get(..map.record_len())
+            .ok_or(too_short(self.file))?;
+        Ok(Record { bytes })
     }
 }

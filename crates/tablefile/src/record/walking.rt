@@ -5,7 +5,7 @@ ghost use Rattle.streams.specs.Stands.{stream_of};
 ghost use Rattle.model.specs.Layout.{spells, next, slots};
 ghost use Rattle.tablefile.specs.Stands.{progress_of};
 
-use crate::fields::has;
+use crate::fields::Map;
 use crate::record::cutting::at_place;
 use crate::record::{Reader, Record};
 use refusal::{Fault, Layer, Refusal};
@@ -27,6 +27,7 @@ impl Reader<'_> {
         ensures cases { MatchResult result (λ _. next self.old.file.now slot (progress_of self.old) ≡ Ok (progress_of self.new)) (λ f. next self.old.file.now slot (progress_of self.old) ≡ Err f) }
     {
         let record = self.record()?;
+        // The first record of a file has its period, so the 0 is never read.
         let before = self.before.unwrap_or(0);
         let stream = at_place(record.stream(before), self.at, Layer::Stream)?;
         self.table = at_place(
@@ -41,13 +42,13 @@ impl Reader<'_> {
 
     // Lays the records of all slots whose bit stands in the slot map, lowest slot first.
     // A loop and not a chain: each record moves the reader.
-    pub(crate) fn lay_all(&mut self, map: u8) -> Result<(), Fault>
-        requires map { map ≡ slice_index self.old.file.now 0 }
+    pub(crate) fn lay_all(&mut self, map: Map) -> Result<(), Fault>
+        requires map { map.0 ≡ slice_index self.old.file.now 0 }
         requires fresh { slots self.old.file.now 0 ≡ Ok (progress_of self.old) }
         ensures cases { MatchResult result (λ _. slots self.old.file.now 8 ≡ Ok (progress_of self.new)) (λ f. slots self.old.file.now 8 ≡ Err f) }
     {
         for slot in 0..8 {
-            if has(map, slot) {
+            if map.has(slot) {
                 self.lay(slot)?;
             }
         }
