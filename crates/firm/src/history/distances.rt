@@ -30,7 +30,7 @@ impl History {
     {
         let mut history = *self;
         // A loop and not a chain: `successors` enters one outcome more than is asked about, in each comparison of two
-        // frames, and the library has no lemma on the items that it yields, so the proof of its result did not close.
+        // frames, and the check alone does not find what the chain returns.
         for n in 0..self.k {
             if history.is_turned(outcome) {
                 return n;
