@@ -1,4 +1,4 @@
-// The line of an admissible table.
+// The line of an admissible table. Of two numbers, and not by a `Display`: they are no type with a text of its own.
 ghost use Rattle.std.specs.Prelude.{◌≡◌, IfOk, string_bytes};
 ghost use Rattle.report.specs.Lines.{admitted};
 
