@@ -26,7 +26,7 @@ pub use keys::{Distance, Period, Restoring, SlotRank, TimeLeft};
 pub use layers::{Key, Layer};
 pub use machine::Machine;
 pub use machine::tally::Tally;
-pub use named::{Deh, Del, Dml, Drel, El, Ml};
+pub use named::{Deh, Del, Dml, Drel, El, Ml, Named};
 pub use ranking::Ranking;
 pub use ready::ReadyFrame;
 pub use rule::Rule;

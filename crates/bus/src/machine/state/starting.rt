@@ -5,6 +5,7 @@ ghost use Rattle.bus.specs.Waiting.{AllSendable, ahead, candidate_of};
 ghost use Rattle.model.specs.Machine.{candidates, front, start, starting};
 ghost use Rattle.std.specs.Option.{option_map};
 
+use crate::front::front_at;
 use crate::machine::candidate::Candidate;
 use crate::machine::row::Row;
 use crate::machine::state::State;
@@ -57,12 +58,13 @@ impl State {
     }
 }
 
-// The one of two waiting frames that goes before the other; either may be absent.
+// The front of two waiting frames; either may be absent.
+#[tactic(auto, unfolding(crate::specs::First::walk))]
 fn ahead<R: Rule>(rule: &R, first: Option<Candidate>, next: Option<Candidate>) -> Option<Candidate>
     ensures { option_map candidate_of result ≡ ahead (R.before rule.now) (option_map candidate_of first) (option_map candidate_of next) }
 {
     match (&first, &next) {
-        (Some(a), Some(b)) if rule.goes_before(&b.shown, &a.shown) => next,
+        (Some(a), Some(b)) if front_at(rule, &[a.shown, b.shown]) == Some(1) => next,
         _ => first.or(next),
     }
 }

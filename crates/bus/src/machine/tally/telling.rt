@@ -1,11 +1,12 @@
-ghost use Rattle.std.specs.Prelude.{◌≡◌, ◌-◌, ◌^◌, [], Some};
+ghost use Rattle.std.specs.Prelude.{◌≡◌, ◌-◌, ◌^◌, [], Some, if◌then◌else◌};
 ghost use Rattle.bus.specs.Endings.{AtMost, told_of};
+ghost use Rattle.bus.specs.Failures.{lower_failure};
 ghost use Rattle.bus.specs.Machines.{failure_note, tally_of};
 ghost use Rattle.bus.specs.Tallies.{capped, together};
 ghost use Rattle.model.specs.Tally.{soonest, tally};
 ghost use Rattle.std.specs.Option.{option_map};
 
-use crate::failure::Failure;
+use crate::failure::{Failure, first_failure};
 use crate::machine::ended::Ended;
 use crate::machine::tally::Tally;
 use firm::Outcome;
@@ -59,7 +60,19 @@ fn soonest(a: Option<Failure>, b: Option<Failure>) -> Option<Failure>
     ensures { option_map failure_note result ≡ soonest (option_map failure_note a) (option_map failure_note b) }
 {
     match (&a, &b) {
+        (Some(x), Some(y)) if x.instant == y.instant => Some(lower(*x, *y)),
         (Some(x), Some(y)) if y.is_sooner(x) => b,
         _ => a.or(b),
+    }
+}
+
+// The failure in the lower slot, of two; the first of two in one slot.
+#[tactic(auto, unfolding(crate::specs::First::walk))]
+fn lower(x: Failure, y: Failure) -> Failure
+    ensures { result ≡ (if lower_failure y x then y else x) }
+{
+    match first_failure(&[x, y]) {
+        Some(1) => y,
+        _ => x,
     }
 }
