@@ -6,6 +6,7 @@ ghost use Rattle.model.specs.Figures.{figures_over};
 
 use crate::figures::Figures;
 use crate::running::Running;
+use crate::search::walking::quiet_unit;
 use bus::{Machine, Rule, Tally};
 
 impl<R: Rule> Running<R> {
@@ -21,7 +22,7 @@ impl<R: Rule> Running<R> {
         let mut told = Tally::nothing();
         for _ in 0..units {
             busy += u64::from(bus.is_busy_next());
-            told = told.together(self.quiet_unit(&mut bus));
+            told = told.together(quiet_unit(&self.rule, &mut bus));
         }
         Figures {
             length: units,

@@ -27,12 +27,13 @@ impl<R: Rule> Running<R> {
         u64::from(self.table.hyper_period())
     }
 
-    // The bus at the first boundary, or the first failure before it.
-    fn first_boundary(&self) -> Result<Machine, Failure>
+    // The bus at the first boundary, or the first failure before it. The period is given, since finding it can take longer than all else.
+    fn first_boundary(&self, period: u64) -> Result<Machine, Failure>
+        requires { period ≡ hyper_period (table_of self.now.table) }
         ensures { FirstFound (R.before self.now.rule) (state_in self.now) (hyper_period (table_of self.now.table)) result }
     {
         let mut bus = self.machine;
-        let units = units_to_boundary(bus.now(), self.period());
+        let units = units_to_boundary(bus.now(), period);
         self.walk(&mut bus, units)?;
         Ok(bus)
     }
@@ -41,9 +42,10 @@ impl<R: Rule> Running<R> {
     pub(super) fn search(&self) -> Result<Round, Failure>
         ensures { EarliestFound (R.before self.now.rule) (state_in self.now) result }
     {
-        let first = self.first_boundary()?;
-        let round = self.round(first)?;
-        self.earliest_round(first, round)
+        let period = self.period();
+        let first = self.first_boundary(period)?;
+        let round = self.round(first, period)?;
+        self.earliest_round(first, period, round)
     }
 
     // What is foretold of the quiet schedule from here: that it never has a dynamic failure, with the only two boundaries up to the later at

@@ -5,6 +5,7 @@ ghost use Rattle.model.specs.Bench.{advanced, disturbed, last_instant, state_aft
 ghost use Rattle.refusal.specs.Tests.{kept, on_ok};
 
 use crate::running::Running;
+use crate::search::walking::quiet_unit;
 use bus::{Machine, Rule, Tally};
 use refusal::Refusal;
 
@@ -28,10 +29,7 @@ impl<R: Rule> Running<R> {
         if self.machine.now() + units > LAST_INSTANT {
             return Err(Refusal::InstantLimit);
         }
-        let mut bus = self.machine;
-        let told = self.quiet_units(&mut bus, units);
-        self.machine = bus;
-        Ok(told)
+        Ok(quiet_units(&self.rule, &mut self.machine, units))
     }
 
     // Works one noisy unit and tells of its outcomes, or refuses an instant above its limit.
@@ -46,19 +44,19 @@ impl<R: Rule> Running<R> {
         }
         self.machine.unit(&self.rule, true)
     }
+}
 
-    // Works quiet units of a bus, none of which passes the last instant, and tells of their outcomes.
-    // A loop of its own: a walk ends at the first failure and adds nothing up. That no unit passes the last instant is no type, as at `quiet_unit`.
-    fn quiet_units(&self, bus: &mut Machine, units: u64) -> Tally
-        requires few { units ≤ 65535 }
-        requires early { (state_of bus.old).now + units ≤ last_instant }
-        ensures told { tally_of result ≡ (worked (R.before self.now.rule) (state_of bus.old) (replicate units false)).told }
-        ensures state { state_of bus.new ≡ (worked (R.before self.now.rule) (state_of bus.old) (replicate units false)).state }
-    {
-        let mut told = Tally::nothing();
-        for _ in 0..units {
-            told = told.together(self.quiet_unit(bus));
-        }
-        told
+// Works quiet units of a bus, none of which passes the last instant, and tells of their outcomes.
+// A loop of its own: a walk ends at the first failure and adds nothing up. That no unit passes the last instant is no type, as at `quiet_unit`.
+fn quiet_units<R: Rule>(rule: &R, bus: &mut Machine, units: u64) -> Tally
+    requires few { units ≤ 65535 }
+    requires early { (state_of bus.old).now + units ≤ last_instant }
+    ensures told { tally_of result ≡ (worked (R.before rule.now) (state_of bus.old) (replicate units false)).told }
+    ensures state { state_of bus.new ≡ (worked (R.before rule.now) (state_of bus.old) (replicate units false)).state }
+{
+    let mut told = Tally::nothing();
+    for _ in 0..units {
+        told = told.together(quiet_unit(rule, bus));
     }
+    told
 }

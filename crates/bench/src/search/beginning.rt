@@ -2,9 +2,8 @@ ghost use Rattle.std.specs.Prelude.{◌-◌, ◌*◌, ◌≤◌};
 ghost use Rattle.bench.specs.Searches.{EarliestFound, Searchable};
 ghost use Rattle.bus.specs.Machines.{state_of};
 ghost use Rattle.model.specs.Forecast.{table_of};
-ghost use Rattle.model.specs.Tables.{histories, hyper_period};
+ghost use Rattle.model.specs.Tables.{histories};
 ghost use Rattle.promise.specs.Answers.{Returns};
-ghost use Rattle.streams.specs.Tables.{table_of as streams_of};
 
 use crate::running::Running;
 use crate::search::agreeing::agree;
@@ -14,13 +13,17 @@ use bus::{Failure, Machine, Rule};
 impl<R: Rule> Running<R> {
     // The earliest round that is as long as one that is known, from a bus at a boundary: two walkers that far apart go on until their
     // histories agree. A loop and not a chain: both go on with each boundary, and the first failure ends it.
-    pub(crate) fn earliest_round(&self, first: Machine, known: Round) -> Result<Round, Failure>
-        requires state { Searchable (state_of first) (hyper_period (streams_of self.now.table)) }
+    pub(crate) fn earliest_round(
+        &self,
+        first: Machine,
+        period: u64,
+        known: Round,
+    ) -> Result<Round, Failure>
+        requires state { Searchable (state_of first) period }
         requires returns { Returns (R.before self.now.rule) (state_of first) known.from (known.to - known.from) }
         requires soon { known.to ≤ 3 * histories (table_of (state_of first)) }
         ensures { EarliestFound (R.before self.now.rule) (state_of first) result }
     {
-        let period = self.period();
         let length = known.to - known.from;
         let mut near = first;
         let mut far = first;

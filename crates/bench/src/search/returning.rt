@@ -1,7 +1,5 @@
 ghost use Rattle.bench.specs.Searches.{RoundFound, Searchable};
 ghost use Rattle.bus.specs.Machines.{state_of};
-ghost use Rattle.model.specs.Tables.{hyper_period};
-ghost use Rattle.streams.specs.Tables.{table_of as streams_of};
 
 use crate::running::Running;
 use crate::search::agreeing::agree;
@@ -15,11 +13,10 @@ impl<R: Rule> Running<R> {
     // A round of the least length, from a bus at a boundary: the histories of one boundary are kept and compared with those of the
     // boundaries after it, twice as many each time. It ends at the first failure.
     // A loop and not a chain: the walker goes on with each boundary.
-    pub(crate) fn round(&self, first: Machine) -> Result<Round, Failure>
-        requires { Searchable (state_of first) (hyper_period (streams_of self.now.table)) }
+    pub(crate) fn round(&self, first: Machine, period: u64) -> Result<Round, Failure>
+        requires { Searchable (state_of first) period }
         ensures { RoundFound (R.before self.now.rule) (state_of first) result }
     {
-        let period = self.period();
         let mut kept = first;
         let mut from = 0;
         let mut walker = first;

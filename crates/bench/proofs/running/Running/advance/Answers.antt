@@ -11,5 +11,5 @@ invariant_of-self g c =
     let before = g.R.Rule.before b.rule in
     let units = replicate c.args.units false in
     let room : (state_in b).now + length units ≤ last_instant = omega (arith, length-replicate c.args.units false) in
-    let e = c.quiet_units-told.ensures.state in
+    let e = c.quiet_units.ensures.state in
     record { early = early_run before (state_in b) _ units room e; same = kept_run before _ (state_in b) _ units b.machine.sound e b.same }

@@ -13,7 +13,7 @@ pub units_to_boundary-units-requires : goal.units_to_boundary-units-requires
 units_to_boundary-units-requires g c =
     let b = c.args.self.now in
     let s = state_in b in
-    omega (arith, c.period.ensures, some_period s (held_sound s b.machine.sound) (table_of b.table) b.same)
+    omega (arith, c.requires, some_period s (held_sound s b.machine.sound) (table_of b.table) b.same)
 
 pub returns : goal.returns
 returns g c =

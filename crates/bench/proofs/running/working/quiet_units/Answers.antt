@@ -4,9 +4,9 @@ use Rattle.bus.specs.Machines.{state_of, tally_of}
 use Rattle.bus.specs.Tallies.{together}
 use Rattle.bus.proofs.Telling.{capped_few}
 use Rattle.bench.proofs.Advancing.{Led, led_none, led_few, led_next, led_early}
-use Rattle.bench.proofs.running.Running.quiet_units.Given as given
-use Rattle.bench.proofs.running.Running.quiet_units.Goals as goal
-use Rattle.bench.proofs.running.Running.quiet_units.Goals.{After-quiet_unit}
+use Rattle.bench.proofs.running.working.quiet_units.Given as given
+use Rattle.bench.proofs.running.working.quiet_units.Goals as goal
+use Rattle.bench.proofs.running.working.quiet_units.Goals.{After-quiet_unit}
 
 pub loop-init : goal.loop-init
 loop-init g c = subst (Led _ _ 0 _) (sym c.nothing-told.ensures) (led_none _ _)
@@ -17,7 +17,7 @@ quiet_unit-requires g c = led_early _ _ c.loop.counter c.args.units _ _ _ c.loop
 -- what the units up to this one tell
 next :
     (g : given.Over) (c : After-quiet_unit g)
-    → Led (g.R.Rule.before c.args.self.now.rule) (state_of c.args.bus.now) (c.loop.counter + 1)
+    → Led (g.R.Rule.before c.args.rule.now) (state_of c.args.bus.now) (c.loop.counter + 1)
     (state_of c.quiet_unit.new.bus) (together (tally_of c.loop.told) (tally_of c.quiet_unit.result))
 next g c = led_next _ _ c.loop.counter _ _ _ _ c.loop.invariant c.quiet_unit.ensures.told c.quiet_unit.ensures.state
 

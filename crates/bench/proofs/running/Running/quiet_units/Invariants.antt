@@ -1,6 +1,0 @@
-use Rattle.bus.specs.Machines.{state_of, tally_of}
-use Rattle.bench.proofs.Advancing.{Led}
-use Rattle.bench.proofs.running.Running.quiet_units.Given as goal
-
-abbrev pub invariant-loop : goal.invariant-loop
-invariant-loop g l = Led (g.R.Rule.before l.self.rule) (state_of l.initial.bus) l.counter (state_of l.bus) (tally_of l.told)
