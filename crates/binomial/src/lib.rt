@@ -53,8 +53,9 @@ pub fn at_least(k: u64, m: u64) -> Option<u32>
     ensures counted { SumsCount }
 {
     let row = table().get(k as usize)?;
-    // Behind place k the row has only zeros.
-    Some(row.entries.iter().skip(m as usize).sum())
+    // A part of the row and not `skip`, which goes over the places that it leaves out; there is none where m lies past k.
+    let terms = row.entries.get(m as usize..k as usize + 1).unwrap_or(&[]);
+    Some(terms.iter().sum())
 }
 
 #[cfg(test)]

@@ -2,7 +2,6 @@
 pub mod Folds
 pub mod Multiples
 pub mod Periods
-pub mod Present
 pub mod Products
 pub mod Slots
 pub mod Written

@@ -1,11 +1,11 @@
--- A table's number of histories as one product over its streams. Assumes nothing.
+-- A table's number of histories as one product over its slots. Assumes nothing.
 use Rattle.std.proofs.Common.{◌≡◌, ℕ, zero, suc, ◌*◌, ◌<◌, ◌≤◌, List, [], ◌∷◌, length, map, take, None, Some, Option, sym, ap, ◌∙◌, mul_assoc, mul-one, one-mul, le-mul_of_pos_right, map-id, arith}
 use Rattle.std.proofs.iter.runs.Made.{took}
 use Rattle.std.proofs.lemmas.Iterator.{YieldsList}
 use Rattle.std.proofs.lemmas.Iterator.Consumers.{YieldsList-at, YieldsList-so_far}
 use Rattle.std.specs.Iterator.Runs.{EachRunFrom}
-use Rattle.std.specs.List.{fold, flat_map}
-use Rattle.std.specs.Option.{option_to_list}
+use Rattle.std.specs.List.{fold}
+use Rattle.std.specs.Option.{option_map_or}
 use Rattle.binomial.proofs.Sums.{at_least_positive}
 use Rattle.model.specs.Tables.{passing_count, histories}
 use Rattle.streams.specs.Stands.{stream_of, slots_of}
@@ -37,19 +37,23 @@ product_fits {all = all} s top road positive less p seen from =
     let same : p.items ≡ take (length p.items) all = sym (map-id p.items) ∙ front in
     omega (arith, ap (product 1) same, first_within 1 (length p.items) all positive)
 
--- the counts of passing histories of the streams in some slots
+-- how many histories of the stream in a slot pass; an empty slot counts 1
+abbrev pub count_in : Option Stream → ℕ
+count_in slot = option_map_or (λ s. passing_count (stream_of s)) slot 1
+
+-- the counts of some slots
 abbrev pub counts : List (Option Stream) → List ℕ
-counts slots = map (λ s. passing_count (stream_of s)) (flat_map option_to_list slots)
+counts slots = map count_in slots
 
 pub counts_positive : (slots : List (Option Stream)) → Positive (counts slots)
 counts_positive [] = tt
-counts_positive (None ∷ slots) = counts_positive slots
+counts_positive (None ∷ slots) = (omega arith, counts_positive slots)
 counts_positive (Some s ∷ slots) = (at_least_positive s.history.k s.history.m s.history.most, counts_positive slots)
 
 product_from : (k : ℕ) (slots : List (Option Stream)) → product k (counts slots) ≡ k * histories (slots_of slots)
 unfolding histories
 product_from k [] = sym (mul-one k)
-product_from k (None ∷ slots) = product_from k slots
+product_from k (None ∷ slots) = ap (λ n. product n (counts slots)) (mul-one k) ∙ product_from k slots
 product_from k (Some s ∷ slots) = product_from (k * passing_count (stream_of s)) slots ∙ mul_assoc k (passing_count (stream_of s)) _
 
 pub product_counts : (slots : List (Option Stream)) → product 1 (counts slots) ≡ histories (slots_of slots)

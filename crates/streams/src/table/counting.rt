@@ -1,4 +1,5 @@
 ghost use Rattle.std.specs.Prelude.{◌≡◌, ◌*◌, ◌≤◌, nat_le};
+ghost use Rattle.std.specs.Option.{option_map_or};
 ghost use Rattle.model.specs.Tables.{histories, passing_count};
 ghost use Rattle.streams.specs.Stands.{stream_of};
 ghost use Rattle.streams.specs.Tables.{table_of};
@@ -16,13 +17,20 @@ fn count_passing(stream: &Stream) -> u32
     stream.history().passing_count()
 }
 
+// How many histories of the stream in a slot pass; an empty slot counts 1. (Not over `flatten`, which takes several times as long.)
+fn count_in(slot: &Option<Stream>) -> u32
+    ensures { result ≡ option_map_or (λ s. passing_count (stream_of s)) slot.now 1 }
+{
+    slot.as_ref().map_or(1, count_passing)
+}
+
 impl Table {
     // N: the product of the streams' counts of passing histories, 1 for the empty table.
     pub fn history_count(&self) -> u32
         ensures value { result ≡ histories (table_of self.now) }
         ensures some { 1 ≤ result }
     {
-        self.slots.iter().flatten().map(count_passing).product()
+        self.slots.iter().map(count_in).product()
     }
 
     // Whether the number of histories stays within its limit with one more stream.

@@ -1,4 +1,5 @@
 ghost use Rattle.std.specs.Prelude.{◌≡◌, ◌<◌, ◌≤◌, if◌then◌else◌, Some, None, nat_le, nat_lt};
+ghost use Rattle.std.specs.Option.{IfSome, option_map_or};
 ghost use Rattle.model.specs.Tables.{LeastCommon, hyper_period, lcm};
 ghost use Rattle.streams.specs.Tables.{table_of};
 
@@ -20,13 +21,17 @@ fn common_multiple(a: u32, b: u32) -> Option<u32>
         .find(|multiple| multiple % b == 0)
 }
 
-// The least common multiple of a hyper-period so far and the period of one stream more, which is known to stay within the limit.
-fn with_period(p: u32, stream: &Stream) -> u32
+// The least common multiple of a hyper-period so far and the period of the stream in a slot, which is known to stay within the limit;
+// an empty slot changes nothing. (Not over `flatten`, which takes several times as long.)
+fn with_slot(p: u32, slot: &Option<Stream>) -> u32
     requires positive { 0 < p }
-    requires within { lcm p stream.now.period ≤ 36864 }
-    ensures { result ≡ lcm p stream.now.period }
+    requires within { IfSome slot.now (λ s. lcm p s.period ≤ 36864) }
+    ensures { result ≡ option_map_or (λ s. lcm p s.period) slot.now p }
 {
-    common_multiple(p, u32::from(stream.period())).unwrap()
+    match slot {
+        Some(stream) => common_multiple(p, u32::from(stream.period())).unwrap(),
+        None => p,
+    }
 }
 
 impl Table {
@@ -35,7 +40,7 @@ impl Table {
         ensures value { result ≡ hyper_period (table_of self.now) }
         ensures least { LeastCommon (table_of self.now) result }
     {
-        self.slots.iter().flatten().fold(1, with_period)
+        self.slots.iter().fold(1, with_slot)
     }
 
     // Whether the hyper-period stays within its limit with one more stream.
