@@ -20,15 +20,12 @@ abbrev pub Turn : (Ready → Ready → Bool) → State → ℕ → ℕ → State
 Turn before x i to kept walker = (n : ℕ) × (i + (n + 1) ≡ to) × Hunting before x i n kept walker
 
 -- a machine that can be searched from, with its hyper-period
-module _ (before : Ready → Ready → Bool) (m : Machine) (asked : ℕ) (searchable : Searchable (state_of m) asked) (period : ℕ) (same : period ≡ asked) where
+module _ (before : Ready → Ready → Bool) (m : Machine) (period : ℕ) (from : Searchable (state_of m) period) where
   abbrev x : State
   x = state_of m
 
   h : Sound x
   h = held_sound x m.sound
-
-  from : Searchable x period
-  from = subst (Searchable x) (sym same) searchable
 
   -- how far a walker may go on
   at_room : (i m : ℕ) (w : State) → At before x i w → i + m ≤ 3 * histories (table_of x) → w.now + m * period ≤ machine_limit
