@@ -73,12 +73,12 @@ pub(crate) fn by_layers<A: Ask>(ask: &A, pair: [Waiting; 2]) -> Result<[[bool; 2
 
 pub(crate) fn by_named<A: Ask>(ask: &A, pair: [Waiting; 2]) -> Result<[bool; 6], Fail> {
     Ok([
-        ask.is_first(&Del::default(), pair)?,
-        ask.is_first(&Deh::default(), pair)?,
-        ask.is_first(&Dml::default(), pair)?,
-        ask.is_first(&Drel::default(), pair)?,
-        ask.is_first(&El::default(), pair)?,
-        ask.is_first(&Ml::default(), pair)?,
+        ask.is_first(&Del::new(), pair)?,
+        ask.is_first(&Deh::new(), pair)?,
+        ask.is_first(&Dml::new(), pair)?,
+        ask.is_first(&Drel::new(), pair)?,
+        ask.is_first(&El::new(), pair)?,
+        ask.is_first(&Ml::new(), pair)?,
     ])
 }
 

@@ -58,7 +58,7 @@ impl State {
     }
 }
 
-// The front of two waiting frames; either may be absent.
+// The front of two waiting frames, by what is proved of that of a list; either may be absent.
 #[tactic(auto, unfolding(crate::specs::First::walk))]
 fn ahead<R: Rule>(rule: &R, first: Option<Candidate>, next: Option<Candidate>) -> Option<Candidate>
     ensures { option_map candidate_of result ≡ ahead (R.before rule.now) (option_map candidate_of first) (option_map candidate_of next) }

@@ -66,7 +66,7 @@ fn soonest(a: Option<Failure>, b: Option<Failure>) -> Option<Failure>
     }
 }
 
-// The failure in the lower slot, of two; the first of two in one slot.
+// The failure in the lower slot, of two of one instant, by what is proved of the first of a list; the first of two in one slot.
 #[tactic(auto, unfolding(crate::specs::First::walk))]
 fn lower(x: Failure, y: Failure) -> Failure
     ensures { result ≡ (if lower_failure y x then y else x) }
